@@ -1,0 +1,16 @@
+-- The table of round constants obeys FIPS 202's rule, and each constant is a word.
+-- Assumes nothing.
+use mathlib.Core.Path.{_≡_, refl}
+use mathlib.Core.Bool.{Bool}
+use Prim.Native.Nat.{ℕ, _^_, _<_}
+use lib.Dec.{ltb, ltb→lt}
+use lib.ListN.{getD}
+use Rattle.keccak.specs.State.{from}
+use Rattle.keccak.specs.Permutation.{roundConstants}
+use Rattle.keccak.specs.Rules.{shifted, register, rc, bitsBelow, roundConstant}
+use Rattle.keccak.proofs.Table.{at}
+
+-- the whole table: the constants of rounds 12 to 23, as the shift register gives them
+pub constants-rule : roundConstants ≡ from 12 12 roundConstant
+unfolding from roundConstant bitsBelow rc register shifted
+constants-rule = refl

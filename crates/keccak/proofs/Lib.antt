@@ -1,0 +1,7 @@
+-- Laws of the permutation. Callers use `States` and `Bytes`; the rest serves the functions' own proofs.
+pub mod Table
+pub mod Grid
+pub mod Words
+pub mod Offsets
+pub mod Constants
+pub mod Rounds
