@@ -14,3 +14,10 @@ use Rattle.keccak.proofs.Table.{at}
 pub constants-rule : roundConstants ≡ from 12 12 roundConstant
 unfolding from roundConstant bitsBelow rc register shifted
 constants-rule = refl
+
+word-sized : ℕ → ℕ → Bool
+word-sized k x = ltb x (2 ^ 64)
+
+pub constant-word : (k : ℕ) → k < 12 → getD roundConstants k 0 < 2 ^ 64
+unfolding word-sized
+constant-word k h = ltb→lt (getD roundConstants k 0) (2 ^ 64) (at word-sized roundConstants tt k h)

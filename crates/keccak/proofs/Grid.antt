@@ -2,20 +2,21 @@
 -- Assumes nothing.
 use mathlib.Core.Path.{_≡_, refl, sym, ap, ap₂, _∙_, subst}
 use mathlib.Core.List.{List, [], _∷_, _++_, append-nil}
-use Prim.Native.Nat.{ℕ, zero, suc, _+_, _*_, _/_, _%_, _<_, _≤_}
+use Prim.Native.Nat.{ℕ, zero, suc, _+_, _*_, _/_, _%_, _^_, _<_}
 use native.Mathlib.Nat.{add-zero, zero-add, add-suc, suc-add, le-of-suc-le-suc, not-suc-le-zero, le-of-eq}
 use native.Mathlib.Numerals.{add-one}
 use native.Mathlib.Omega.{arith}
 use lib.ListN.{length, getD, set, take, drop}
+use lib.Pow.{pow-pos}
 use lib.Seq.{paste, paste-suc, take-length, drop-length}
 use Rattle.keccak.specs.State.{from, grid, lane}
 
-from-length : (f : ℕ → ℕ) (i n : ℕ) → length (from i n f) ≡ n
+pub from-length : (f : ℕ → ℕ) (i n : ℕ) → length (from i n f) ≡ n
 unfolding from
 from-length f i zero = refl
 from-length f i (suc n) = ap suc (from-length f (suc i) n)
 
-from-at : (f : ℕ → ℕ) (i n k : ℕ) → k < n → getD (from i n f) k 0 ≡ f (i + k)
+pub from-at : (f : ℕ → ℕ) (i n k : ℕ) → k < n → getD (from i n f) k 0 ≡ f (i + k)
 unfolding from
 from-at f i zero k h = absurd (not-suc-le-zero h)
 from-at f i (suc n) zero h = ap f (sym (add-zero i))
@@ -28,6 +29,16 @@ grid-length f = from-length (λ i. f (i % 5) (i / 5)) 0 25
 pub grid-at : (f : ℕ → ℕ → ℕ) (k : ℕ) → k < 25 → getD (grid f) k 0 ≡ f (k % 5) (k / 5)
 unfolding grid
 grid-at f k h = from-at (λ i. f (i % 5) (i / 5)) 0 25 k h ∙ ap (λ i. f (i % 5) (i / 5)) (zero-add k)
+
+from-words : (f : ℕ → ℕ) (i n : ℕ) → ((j : ℕ) → f j < 2 ^ 64) → (k : ℕ) → getD (from i n f) k 0 < 2 ^ 64
+unfolding from
+from-words f i zero h k = pow-pos 64
+from-words f i (suc n) h zero = h i
+from-words f i (suc n) h (suc k) = from-words f (suc i) n h k
+
+pub grid-words : (f : ℕ → ℕ → ℕ) → ((x y : ℕ) → f x y < 2 ^ 64) → (k : ℕ) → getD (grid f) k 0 < 2 ^ 64
+unfolding grid
+grid-words f h k = from-words (λ i. f (i % 5) (i / 5)) 0 25 (λ j. h (j % 5) (j / 5)) k
 
 -- the lane (k % 5, k / 5) stands at k
 pub lane-at : (a : List ℕ) (k : ℕ) → k < 25 → lane a (k % 5) (k / 5) ≡ getD a k 0

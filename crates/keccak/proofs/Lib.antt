@@ -5,3 +5,5 @@ pub mod Words
 pub mod Offsets
 pub mod Constants
 pub mod Rounds
+pub mod States
+pub mod Bytes

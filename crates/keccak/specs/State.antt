@@ -23,9 +23,13 @@ from i (suc n) f = f i ∷ from (suc i) n f
 unfoldable pub grid : (ℕ → ℕ → ℕ) → List ℕ
 grid f = from 0 25 (λ i. f (i % 5) (i / 5))
 
--- byte i of the 200 bytes of a state: byte i % 8 of lane i / 8, the least significant first (sections 3.1.3 and B.1)
+-- byte i of the 200 bytes of a state: byte i % 8 of lane i / 8, the least significant first
 unfoldable pub byteAt : List ℕ → ℕ → ℕ
 byteAt a i = getD a (i / 8) 0 / 2 ^ (8 * (i % 8)) % 256
+
+-- the 200 bytes of a state (sections 3.1.3 and B.1)
+unfoldable pub bytesOf : List ℕ → List ℕ
+bytesOf a = from 0 200 (byteAt a)
 
 -- the number whose bytes these are, the least significant first
 unfoldable pub word : List ℕ → ℕ

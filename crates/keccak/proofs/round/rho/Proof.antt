@@ -34,9 +34,6 @@ abbrev μ-loop : tie.MeasureT-loop
 loop-holds : tie.Need-loop-holds Inv-loop μ-loop
 loop-holds c = (omega arith, refl)
 
-rotate-left-requires : tie.Need-rotate-left-requires Inv-loop μ-loop
-rotate-left-requires c κs = offset-small (c .before .loop .i) (c .loop-test .taken)
-
 loop-again : tie.Need-loop-again Inv-loop μ-loop
 loop-again c =
     let at = c .before .before .loop in
@@ -46,6 +43,9 @@ loop-again c =
       ap (λ l. set l (at .i) (c .rotate-left .result)) (at .inv .1)
           ∙ fill-next zeros (rho a) (at .i) (c .rotate-left .result) h (rw rho-length h) (c .rotate-left .ensures ∙ sym (rho-at a (at .i) h)),
     )
+
+rotate-left-requires : tie.Need-rotate-left-requires Inv-loop μ-loop
+rotate-left-requires c κs = offset-small (c .before .loop .i) (c .loop-test .taken)
 
 returns : tie.Need-returns Inv-loop μ-loop
 returns c =

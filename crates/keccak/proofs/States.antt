@@ -1,0 +1,86 @@
+-- What a caller of `permute` knows of its result: 25 lanes, each a word of 64 bits.
+-- Assumes nothing.
+use mathlib.Core.Path.{_≡_, _∙_}
+use mathlib.Core.List.{List, [], _∷_}
+use Prim.Native.Nat.{ℕ, zero, suc, _+_, _*_, _%_, _^_, _<_, suc-le-suc}
+use native.Mathlib.Nat.{zero-lt-suc}
+use lib.Bits.{bitXor, bitAnd, xor-lt, and-lt}
+use lib.ListN.{length, getD, set, drop, length-set}
+use Rattle.keccak.specs.State.{State, lane, grid}
+use Rattle.keccak.specs.Round.{rotl, complement, parity, theta, offsets, rho, pi, chi, iota, round}
+use Rattle.keccak.specs.Permutation.{rounds, roundConstants, permuted}
+use Rattle.keccak.proofs.Grid.{grid-length, grid-words}
+use Rattle.keccak.proofs.Words.{rotl-lt, complement-lt}
+use Rattle.keccak.proofs.Constants.{constant-word}
+
+-- ---- the number of lanes, whatever the lanes are
+
+round-length : (rc : ℕ) (a : List ℕ) → length (round rc a) ≡ 25
+unfolding round iota chi
+round-length rc a = simp (length-set, grid-length)
+
+rounds-length : (rc : ℕ) (rcs a : List ℕ) → length (rounds (rc ∷ rcs) a) ≡ 25
+unfolding rounds
+rounds-length rc [] a = round-length rc a
+rounds-length rc (next ∷ rcs) a = rounds-length next rcs (round rc a)
+
+pub permuted-length : (a : List ℕ) → length (permuted a) ≡ 25
+unfolding permuted
+permuted-length a = rounds-length (getD roundConstants 0 0) (drop 1 roundConstants) a
+
+-- ---- a state stays a state
+
+set-words : (l : List ℕ) (i v : ℕ) → ((k : ℕ) → getD l k 0 < 2 ^ 64) → v < 2 ^ 64 → (k : ℕ) → getD (set l i v) k 0 < 2 ^ 64
+set-words [] i v h hv k = h k
+set-words (x ∷ l) zero v h hv zero = hv
+set-words (x ∷ l) zero v h hv (suc k) = h (suc k)
+set-words (x ∷ l) (suc i) v h hv zero = h 0
+set-words (x ∷ l) (suc i) v h hv (suc k) = set-words l i v (λ j. h (suc j)) hv k
+
+grid-state : (f : ℕ → ℕ → ℕ) → ((x y : ℕ) → f x y < 2 ^ 64) → State (grid f)
+grid-state f h = record { lanes = grid-length f; words = grid-words f h }
+
+module _ (a : List ℕ) (s : State a) where
+  at : (x y : ℕ) → lane a x y < 2 ^ 64
+  at x y = s .words (x % 5 + 5 * (y % 5))
+
+  parity-lt : (x : ℕ) → parity a x < 2 ^ 64
+  unfolding parity
+  parity-lt x = xor-lt 64 _ _ (xor-lt 64 _ _ (xor-lt 64 _ _ (xor-lt 64 _ _ (at x 0) (at x 1)) (at x 2)) (at x 3)) (at x 4)
+
+  theta-state : State (theta a)
+  unfolding theta
+  theta-state = grid-state _ (λ x y. xor-lt 64 _ _ (at x y) (xor-lt 64 _ _ (parity-lt (x + 4)) (rotl-lt _ 1 (parity-lt (x + 1)))))
+
+  rho-state : State (rho a)
+  unfolding rho
+  rho-state = grid-state _ (λ x y. rotl-lt _ _ (at x y))
+
+  pi-state : State (pi a)
+  unfolding pi
+  pi-state = grid-state _ (λ x y. at (x + 3 * y) x)
+
+  chi-state : State (chi a)
+  unfolding chi
+  chi-state = grid-state _ (λ x y. xor-lt 64 _ _ (at x y) (and-lt 64 _ _ (complement-lt _) (at (x + 2) y)))
+
+  iota-words : (rc : ℕ) → rc < 2 ^ 64 → (k : ℕ) → getD (iota rc a) k 0 < 2 ^ 64
+  unfolding iota
+  iota-words rc h k = set-words a 0 _ (s .words) (xor-lt 64 _ _ (s .words 0) h) k
+
+  iota-state : (rc : ℕ) → rc < 2 ^ 64 → State (iota rc a)
+  unfolding iota
+  iota-state rc h = record { lanes = length-set a 0 _ ∙ s .lanes; words = iota-words rc h }
+
+round-state : (rc : ℕ) (a : List ℕ) → rc < 2 ^ 64 → State a → State (round rc a)
+unfolding round
+round-state rc a h s = iota-state _ (chi-state _ (pi-state _ (rho-state _ (theta-state a s)))) rc h
+
+rounds-state : (rcs a : List ℕ) → ((k : ℕ) → k < length rcs → getD rcs k 0 < 2 ^ 64) → State a → State (rounds rcs a)
+unfolding rounds
+rounds-state [] a h s = s
+rounds-state (rc ∷ rcs) a h s = rounds-state rcs (round rc a) (λ k g. h (suc k) (suc-le-suc g)) (round-state rc a (h 0 (zero-lt-suc (length rcs))) s)
+
+pub permuted-state : (a : List ℕ) → State a → State (permuted a)
+unfolding permuted
+permuted-state a s = rounds-state roundConstants a constant-word s
