@@ -1,0 +1,112 @@
+#!/usr/bin/env python3
+"""The independent second program: Keccak-p[1600] and TurboSHAKE in Python, from the papers alone.
+
+Written from FIPS 202 (sections 3.2 to 3.4) and draft-irtf-cfrg-kangarootwelve-16 (section 2), never from the Rattle
+sources. Both tables are computed from the standard's own rules. Standard library only.
+
+  reference.py permutation     what the program `permutation` writes
+"""
+import sys
+
+MASK = (1 << 64) - 1
+
+
+def offsets():
+    """Algorithm 2: the rotation offset of lane (x, y), at x + 5 y."""
+    table = [0] * 25
+    x, y = 1, 0
+    for t in range(24):
+        table[x + 5 * y] = (t + 1) * (t + 2) // 2 % 64
+        x, y = y, (2 * x + 3 * y) % 5
+    return table
+
+
+def rc(t):
+    """Algorithm 5: the bit rc(t), by the shift register R."""
+    if t % 255 == 0:
+        return 1
+    r = [1, 0, 0, 0, 0, 0, 0, 0]
+    for _ in range(t % 255):
+        r = [0] + r
+        for i in (0, 4, 5, 6):
+            r[i] ^= r[8]
+        r = r[:8]
+    return r[0]
+
+
+def round_constant(i):
+    """Algorithm 6, steps 1 to 3: RC of round i, for lanes of 2^6 bits."""
+    return sum(rc(j + 7 * i) << (2**j - 1) for j in range(7))
+
+
+OFFSETS = offsets()
+CONSTANTS = [round_constant(i) for i in range(24)]
+# pi: lane (x, y) comes from lane (x + 3 y, x), already rotated by that lane's offset.
+SOURCES = [((x + 3 * y) % 5) + 5 * x for y in range(5) for x in range(5)]
+
+
+def rotl(v, n):
+    return (v << n | v >> (64 - n)) & MASK
+
+
+def keccak_p(lanes, rounds):
+    """Keccak-p[1600, rounds]: the last `rounds` of the 24 rounds of Keccak-f[1600]."""
+    a = list(lanes)
+    for constant in CONSTANTS[24 - rounds :]:
+        c = [a[x] ^ a[x + 5] ^ a[x + 10] ^ a[x + 15] ^ a[x + 20] for x in range(5)]
+        d = [c[x - 1] ^ rotl(c[(x + 1) % 5], 1) for x in range(5)]
+        b = [rotl(a[i] ^ d[i % 5], OFFSETS[i]) for i in SOURCES]
+        a = [b[i] ^ ((b[i - i % 5 + (i + 1) % 5] ^ MASK) & b[i - i % 5 + (i + 2) % 5]) for i in range(25)]
+        a[0] ^= constant
+    return a
+
+
+def state_of(data):
+    """200 bytes as 25 lanes: lane (x, y) is bytes 8 (x + 5 y) on, the least significant first."""
+    return [int.from_bytes(data[8 * i : 8 * i + 8], "little") for i in range(25)]
+
+
+def bytes_of(lanes):
+    return b"".join(v.to_bytes(8, "little") for v in lanes)
+
+
+def sponge(rounds, rate, message, last, length):
+    """The message and the byte `last`, zeros to a multiple of the rate, 80 XORed into the last byte; blocks in, blocks out."""
+    data = bytearray(message) + bytes([last])
+    data += bytes(-len(data) % rate)
+    data[-1] ^= 0x80
+    state = [0] * 25
+    for at in range(0, len(data), rate):
+        block = state_of(bytes(data[at : at + rate]).ljust(200, b"\0"))
+        state = keccak_p([v ^ w for v, w in zip(state, block)], rounds)
+    out = bytes_of(state)[:rate]
+    while len(out) < length:
+        state = keccak_p(state, rounds)
+        out += bytes_of(state)[:rate]
+    return out[:length]
+
+
+def turboshake(rate, message, domain, length):
+    """TurboSHAKE128 (rate 168) and TurboSHAKE256 (rate 136), section 2.2."""
+    return sponge(12, rate, message, domain, length)
+
+
+def ptn(n):
+    """The draft's test pattern: 00 to FA, over and over, n bytes."""
+    return bytes(i % 251 for i in range(n))
+
+
+def permutation_output():
+    """What the program `permutation` writes: both states, a line for each y."""
+    lines = []
+    for heading, lanes in (("zero", [0] * 25), ("ptn(200)", state_of(ptn(200)))):
+        after = keccak_p(lanes, 12)
+        lines.append(heading)
+        lines += [" ".join(f"{v:016x}" for v in after[5 * y : 5 * y + 5]) for y in range(5)]
+    return "\n".join(lines) + "\n"
+
+
+if __name__ == "__main__":
+    if sys.argv[1:] != ["permutation"]:
+        sys.exit(__doc__)
+    sys.stdout.write(permutation_output())

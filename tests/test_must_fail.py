@@ -1,0 +1,31 @@
+"""Each must-fail edit was refused at the fact that it names, and not because a proof no longer fits the code.
+
+An edit says, in a line `first error: FILE NAME`, which file and which declaration the prover must refuse first; the prover's
+own words are in target/must-fail/CRATE/EDIT/.log, from the last `rt ci`.
+"""
+import re
+import unittest
+from pathlib import Path
+
+ROOT = Path(__file__).parent.parent
+ERROR = re.compile(r"^(\S+?):\d+:\d+: error: `([^`]+)`: (.*)$", re.MULTILINE)
+
+
+class Refusals(unittest.TestCase):
+    def test_first_errors(self):
+        edits = sorted(ROOT.glob("crates/*/must-fail/*.edit"))
+        self.assertTrue(edits)
+        for edit in edits:
+            with self.subTest(edit=str(edit.relative_to(ROOT))):
+                named = re.search(r"^first error: (\S+) (\S+)$", edit.read_text(), re.MULTILINE)
+                self.assertIsNotNone(named, "the edit does not say where it must be refused")
+                log = ROOT / "target/must-fail" / edit.parts[-3] / edit.stem
+                first = ERROR.search((log / ".log").read_text())
+                self.assertIsNotNone(first, "the prover refused no declaration")
+                where = Path(first.group(1)).relative_to(log)
+                self.assertEqual((str(where), first.group(2)), named.groups())
+                self.assertNotIn("that can be named from here", first.group(3))
+
+
+if __name__ == "__main__":
+    unittest.main()

@@ -1,0 +1,80 @@
+"""The second program is held to what nobody here wrote, and to the standard's bit-by-bit text."""
+import hashlib
+import random
+import unittest
+
+import reference
+import vectors
+
+
+def keccak_p_bits(bits, rounds):
+    """Keccak-p[1600, rounds] on a string of 1600 bits, by FIPS 202's Algorithms 1 to 7 as they stand."""
+    w = 64
+    a = {(x, y, z): bits[w * (5 * y + x) + z] for x in range(5) for y in range(5) for z in range(w)}
+    for i in range(24 - rounds, 24):
+        c = {(x, z): a[x, 0, z] ^ a[x, 1, z] ^ a[x, 2, z] ^ a[x, 3, z] ^ a[x, 4, z] for x in range(5) for z in range(w)}
+        d = {(x, z): c[(x - 1) % 5, z] ^ c[(x + 1) % 5, (z - 1) % w] for x in range(5) for z in range(w)}
+        a = {(x, y, z): v ^ d[x, z] for (x, y, z), v in a.items()}
+        moved = {(0, 0, z): a[0, 0, z] for z in range(w)}
+        x, y = 1, 0
+        for t in range(24):
+            for z in range(w):
+                moved[x, y, z] = a[x, y, (z - (t + 1) * (t + 2) // 2) % w]
+            x, y = y, (2 * x + 3 * y) % 5
+        a = {(x, y, z): moved[(x + 3 * y) % 5, x, z] for x, y, z in moved}
+        a = {(x, y, z): v ^ ((a[(x + 1) % 5, y, z] ^ 1) & a[(x + 2) % 5, y, z]) for (x, y, z), v in a.items()}
+        for j in range(7):
+            a[0, 0, 2**j - 1] ^= reference.rc(j + 7 * i)
+    return [a[x, y, z] for y in range(5) for x in range(5) for z in range(w)]
+
+
+def bits_of(data):
+    """FIPS 202, B.1: the bits of each byte, the least significant first."""
+    return [byte >> i & 1 for byte in data for i in range(8)]
+
+
+class Permutation(unittest.TestCase):
+    def test_published_24_rounds_of_zero(self):
+        lanes = reference.keccak_p([0] * 25, 24)
+        self.assertEqual(f"{lanes[0]:016X}", "F1258F7940E1DDE7")
+
+    def test_constants_of_the_scope(self):
+        text = "000000008000808B 800000000000008B 8000000000008089 8000000000008003 8000000000008002 8000000000000080 000000000000800A 800000008000000A 8000000080008081 8000000000008080 0000000080000001 8000000080008008"
+        self.assertEqual([f"{v:016X}" for v in reference.CONSTANTS[12:]], text.split())
+
+    def test_offsets_of_the_scope(self):
+        rows = "0 1 62 28 27  36 44 6 55 20  3 10 43 25 39  41 45 15 21 8  18 2 61 56 14"
+        self.assertEqual(reference.OFFSETS, [int(n) for n in rows.split()])
+
+    def test_bit_by_bit(self):
+        for rounds, data in ((12, reference.ptn(200)), (12, random.Random(1).randbytes(200)), (24, reference.ptn(200))):
+            after = reference.bytes_of(reference.keccak_p(reference.state_of(data), rounds))
+            self.assertEqual(bits_of(after), keccak_p_bits(bits_of(data), rounds))
+
+
+class Sponge(unittest.TestCase):
+    """hashlib's SHA-3 and SHAKE use the same permutation with 24 rounds."""
+
+    def test_hashlib(self):
+        source = random.Random(2)
+        for n in (0, 1, 71, 72, 135, 136, 137, 167, 168, 169, 335, 336, 337, 1000):
+            m = source.randbytes(n)
+            self.assertEqual(reference.sponge(24, 168, m, 0x1F, 500), hashlib.shake_128(m).digest(500))
+            self.assertEqual(reference.sponge(24, 136, m, 0x1F, 500), hashlib.shake_256(m).digest(500))
+            self.assertEqual(reference.sponge(24, 136, m, 0x06, 32), hashlib.sha3_256(m).digest())
+            self.assertEqual(reference.sponge(24, 72, m, 0x06, 64), hashlib.sha3_512(m).digest())
+
+    def test_twelve_rounds_by_the_draft(self):
+        """The draft's TurboSHAKE vectors show the twelve rounds; the longest messages take Python minutes and are left out."""
+        rates = {"TurboSHAKE128": 168, "TurboSHAKE256": 136}
+        checked = 0
+        for v in vectors.turboshake():
+            if v.size <= 17**4:
+                out = reference.turboshake(rates[v.function], v.message(), v.domain, v.length)
+                self.assertEqual(out[-len(v.digest) :], v.digest, v)
+                checked += 1
+        self.assertEqual(checked, 27)
+
+
+if __name__ == "__main__":
+    unittest.main()
