@@ -1,0 +1,2 @@
+-- What the benchmarks' exports do.
+pub mod Repeat
