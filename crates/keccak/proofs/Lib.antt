@@ -7,3 +7,4 @@ pub mod Constants
 pub mod Rounds
 pub mod States
 pub mod Bytes
+pub mod Bits
