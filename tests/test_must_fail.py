@@ -7,7 +7,7 @@ import re
 import unittest
 from pathlib import Path
 
-ROOT = Path(__file__).parent.parent
+ROOT = Path(__file__).resolve().parent.parent
 ERROR = re.compile(r"^(\S+?):\d+:\d+: error: `([^`]+)`: (.*)$", re.MULTILINE)
 
 

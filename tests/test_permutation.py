@@ -4,7 +4,7 @@ from pathlib import Path
 
 import reference
 
-ROOT = Path(__file__).parent.parent
+ROOT = Path(__file__).resolve().parent.parent
 
 
 class Output(unittest.TestCase):

@@ -1,8 +1,8 @@
 -- The steps on whole words move and invert bits as FIPS 202 says of single ones (sections 3.2.2 and 3.2.4).
 -- Assumes nothing.
-use mathlib.Core.Path.{_≡_, refl, sym, ap, ap₂, _∙_, subst}
+use mathlib.Core.Path.{_≡_, sym, ap, ap₂, _∙_, subst}
 use mathlib.Core.Logic.{⊎-elim}
-use Prim.Native.Nat.{ℕ, zero, suc, _+_, _-_, _*_, _/_, _%_, _^_, _<_, _≤_}
+use Prim.Native.Nat.{ℕ, _+_, _-_, _*_, _/_, _%_, _^_, _<_, _≤_}
 use native.Mathlib.Nat.{add-comm, add-zero, add-mul, mul-comm, mul-mod-left, mod-lt, eq-zero-or-pos}
 use native.Mathlib.Omega.{arith}
 use lib.Bits.{bitOr, or-shifted}

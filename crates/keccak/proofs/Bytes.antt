@@ -1,14 +1,14 @@
 -- Bytes to lanes and back: the 200 bytes of a state and the state of 200 bytes undo each other.
 -- Assumes nothing.
-use mathlib.Core.Path.{_≡_, refl, sym, ap, ap₂, _∙_, subst}
+use mathlib.Core.Path.{_≡_, sym, ap, ap₂, _∙_, subst}
 use mathlib.Core.List.{List, [], _∷_}
 use Prim.Native.Nat.{ℕ, zero, suc, _+_, _*_, _/_, _%_, _^_, _<_, suc-le-suc}
-use native.Mathlib.Nat.{zero-div, div-one, mul-suc, add-comm, mul-comm, mod-eq-of-lt, mod-one, zero-add, zero-lt-suc, suc-inj}
+use native.Mathlib.Nat.{zero-div, div-one, mul-suc, add-comm, mul-comm, mod-eq-of-lt, mod-one, zero-add, zero-lt-suc}
 use native.Mathlib.Omega.{arith}
 use lib.ListN.{length, getD, take, drop, length-drop}
 use lib.Pow.{shr-shr, mod-pow-add}
 use lib.Seq.{getD-take, getD-drop, ext-getD, length-take-le}
-use Rattle.keccak.specs.State.{State, from, byteAt, bytesOf, word, stateOf}
+use Rattle.keccak.specs.State.{State, byteAt, bytesOf, word, stateOf}
 use Rattle.keccak.proofs.Grid.{from-length, from-at}
 
 -- byte j of w, the least significant first

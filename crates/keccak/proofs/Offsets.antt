@@ -2,7 +2,7 @@
 -- Assumes nothing.
 use mathlib.Core.Path.{_≡_, refl}
 use mathlib.Core.Bool.{Bool}
-use Prim.Native.Nat.{ℕ, zero, suc, _<_}
+use Prim.Native.Nat.{ℕ, _<_}
 use lib.Dec.{ltb, ltb→lt, eqb, eqb→eq}
 use lib.ListN.{getD}
 use Rattle.keccak.specs.State.{lane, from}

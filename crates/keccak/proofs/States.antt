@@ -4,10 +4,10 @@ use mathlib.Core.Path.{_≡_, _∙_}
 use mathlib.Core.List.{List, [], _∷_}
 use Prim.Native.Nat.{ℕ, zero, suc, _+_, _*_, _%_, _^_, _<_, suc-le-suc}
 use native.Mathlib.Nat.{zero-lt-suc}
-use lib.Bits.{bitXor, bitAnd, xor-lt, and-lt}
+use lib.Bits.{xor-lt, and-lt}
 use lib.ListN.{length, getD, set, drop, length-set}
 use Rattle.keccak.specs.State.{State, lane, grid}
-use Rattle.keccak.specs.Round.{rotl, complement, parity, theta, offsets, rho, pi, chi, iota, round}
+use Rattle.keccak.specs.Round.{parity, theta, rho, pi, chi, iota, round}
 use Rattle.keccak.specs.Permutation.{rounds, roundConstants, permuted}
 use Rattle.keccak.proofs.Grid.{grid-length, grid-words}
 use Rattle.keccak.proofs.Words.{rotl-lt, complement-lt}

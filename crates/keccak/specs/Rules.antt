@@ -1,9 +1,9 @@
 -- The rules of the two tables: FIPS 202, sections 3.2.2 (Algorithm 2) and 3.2.5 (Algorithms 5 and 6).
 -- Assumes nothing.
-use mathlib.Core.List.{List, [], _∷_}
+use mathlib.Core.List.{List}
 use Prim.Native.Nat.{ℕ, zero, suc, _+_, _-_, _*_, _/_, _%_, _^_}
 use lib.Bits.{bitXor}
-use lib.ListN.{getD, set, replicate}
+use lib.ListN.{set, replicate}
 
 -- ---- the rotation offsets (Algorithm 2): a walk over the lanes
 

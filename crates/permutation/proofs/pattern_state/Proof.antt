@@ -1,7 +1,6 @@
 -- `permutation::pattern_state` is safe and ends.
 -- Assumes nothing.
 use Prim.Native.Nat.{_-_}
-use native.Mathlib.Omega.{arith}
 use borrow.Author.Needs.{needs}
 use Rattle.permutation.proofs.pattern_state.Statement.{statement}
 use Rattle.permutation.proofs.pattern_state.Tie as tie

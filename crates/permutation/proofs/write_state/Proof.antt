@@ -1,7 +1,6 @@
 -- `permutation::write_state` is safe and ends.
 -- Assumes nothing.
 use Prim.Native.Nat.{_-_}
-use native.Mathlib.Omega.{arith}
 use borrow.Author.Needs.{needs}
 use Rattle.permutation.proofs.write_state.Statement.{statement}
 use Rattle.permutation.proofs.write_state.Tie as tie
