@@ -65,15 +65,15 @@ class Sponge(unittest.TestCase):
             self.assertEqual(reference.sponge(24, 72, m, 0x06, 64), hashlib.sha3_512(m).digest())
 
     def test_twelve_rounds_by_the_draft(self):
-        """The draft's TurboSHAKE vectors show the twelve rounds; the longest messages take Python minutes and are left out."""
+        """The draft's TurboSHAKE vectors show the twelve rounds. The two of 17**6 bytes, 75 s in Python, are left out."""
         rates = {"TurboSHAKE128": 168, "TurboSHAKE256": 136}
         checked = 0
         for v in vectors.turboshake():
-            if v.size <= 17**4:
+            if v.size <= 17**5:
                 out = reference.turboshake(rates[v.function], v.message(), v.domain, v.length)
                 self.assertEqual(out[-len(v.digest) :], v.digest, v)
                 checked += 1
-        self.assertEqual(checked, 27)
+        self.assertEqual(checked, 29)
 
 
 if __name__ == "__main__":

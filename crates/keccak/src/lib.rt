@@ -56,7 +56,7 @@ const OFFSETS: [u64; 25] = [
 pub fn permute(lanes: [u64; 25]) -> [u64; 25]
     ensures { λ r. ⌜ r ≡ permuted lanes ⌝ }
 {
-    // Copied before the loop: read inside it, the table is stored to the stack at every turn.
+    // Copied before the loop: read inside it, the table is built on the stack at every turn.
     let constants = ROUND_CONSTANTS;
     let mut a = lanes;
     let mut i: usize = 0;
