@@ -1,14 +1,15 @@
-"""Each must-fail edit was refused at the fact that it names, and not because a proof no longer fits the code.
+"""Each must-fail edit was refused first at the declaration that it names.
 
 An edit says, in a line `first error: FILE NAME`, which file and which declaration the prover must refuse first; the prover's
-own words are in target/must-fail/CRATE/EDIT/.log, from the last `rt ci`.
+own words are in target/must-fail/CRATE/EDIT/.log, from the last `rt ci`. This holds the place, and refuses the words by which the prover
+says that a proof no longer fits the code. That the declaration is a fact which the edit makes false is for a person to read there.
 """
 import re
 import unittest
 from pathlib import Path
 
 ROOT = Path(__file__).resolve().parent.parent
-ERROR = re.compile(r"^(\S+?):\d+:\d+: error: `([^`]+)`: (.*)$", re.MULTILINE)
+ERROR = re.compile(r"(\S+?):\d+:\d+: error: `([^`]+)`: (.*)")
 
 
 class Refusals(unittest.TestCase):
@@ -20,8 +21,10 @@ class Refusals(unittest.TestCase):
                 named = re.search(r"^first error: (\S+) (\S+)$", edit.read_text(), re.MULTILINE)
                 self.assertIsNotNone(named, "the edit does not say where it must be refused")
                 log = ROOT / "target/must-fail" / edit.parts[-3] / edit.stem
-                first = ERROR.search((log / ".log").read_text())
-                self.assertIsNotNone(first, "the prover refused no declaration")
+                errors = [line for line in (log / ".log").read_text().splitlines() if ": error: " in line]
+                self.assertTrue(errors, "the prover said no error")
+                first = ERROR.fullmatch(errors[0])
+                self.assertIsNotNone(first, f"the first error names no declaration: {errors[0]}")
                 where = Path(first.group(1)).relative_to(log)
                 self.assertEqual((str(where), first.group(2)), named.groups())
                 self.assertNotIn("that can be named from here", first.group(3))
