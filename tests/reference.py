@@ -35,7 +35,7 @@ def rc(t):
 
 
 def round_constant(i):
-    """Algorithm 6, steps 1 to 3: RC of round i, for lanes of 2^6 bits."""
+    """Algorithm 6, steps 2 and 3: RC of round i, for lanes of 2^6 bits."""
     return sum(rc(j + 7 * i) << (2**j - 1) for j in range(7))
 
 

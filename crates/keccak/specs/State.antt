@@ -10,7 +10,7 @@ pub record State (a : List ℕ) : Type 0 where
   pub lanes : length a ≡ 25
   pub words : (k : ℕ) → getD a k 0 < 2 ^ 64
 
--- lane (x, y) stands at x + 5 y; the coordinates count modulo 5 (section 3.1.1)
+-- lane (x, y) stands at x + 5 y (section 3.1.2); the steps take coordinates modulo 5
 abbrev pub lane : List ℕ → ℕ → ℕ → ℕ
 lane a x y = getD a (x % 5 + 5 * (y % 5)) 0
 
