@@ -1,6 +1,6 @@
 -- Bytes to lanes and back: the 200 bytes of a state and the state of 200 bytes undo each other.
 -- Assumes nothing.
-use mathlib.Core.Path.{_≡_, sym, ap, ap₂, _∙_, subst}
+use mathlib.Core.Path.{_≡_, refl, sym, ap, ap₂, _∙_, subst}
 use mathlib.Core.List.{List, [], _∷_}
 use Prim.Native.Nat.{ℕ, zero, suc, _+_, _*_, _/_, _%_, _^_, _<_, suc-le-suc}
 use native.Mathlib.Nat.{zero-div, div-one, mul-suc, add-comm, mul-comm, mod-eq-of-lt, mod-one, zero-add, zero-lt-suc}
@@ -44,6 +44,19 @@ digit-word (b ∷ s) w h =
     ap₂ (λ (u v : ℕ). u + 256 * v) first tail
     ∙ add-comm (w % 256) _ ∙ ap (λ (n : ℕ). n + w % 256) (mul-comm 256 _)
     ∙ sym (mod-pow-add w (8 * length s) 8) ∙ ap (λ (k : ℕ). w % 2 ^ k) (sym (mul-suc 8 (length s)))
+
+-- byte i is byte i % 8 of lane i / 8
+pub byte-is : (a : List ℕ) (i : ℕ) → byteAt a i ≡ getD a (i / 8) 0 / 2 ^ (8 * (i % 8)) % 256
+unfolding byteAt
+byte-is a i = refl
+
+-- byte j of lane k
+pub byte-of-lane : (a : List ℕ) (k j : ℕ) → j < 8 → byteAt a (8 * k + j) ≡ getD a k 0 / 2 ^ (8 * j) % 256
+unfolding byteAt
+byte-of-lane a k j h =
+    let ek : (8 * k + j) / 8 ≡ k = omega arith in
+    let ej : (8 * k + j) % 8 ≡ j = omega arith in
+    ap₂ (λ (u v : ℕ). digit (getD a u 0) v) ek ej
 
 -- the eight bytes of lane k
 group : List ℕ → ℕ → List ℕ
@@ -92,14 +105,10 @@ bytes-of-state s e h =
     ∙ word-digit (group s (i / 8)) (group-bytes s (i / 8) hk e h) (i % 8)
     ∙ group-at s (i / 8) (i % 8) hj ∙ ap (λ (n : ℕ). getD s n 0) ei
 
--- byte j of lane k
 lane-byte : (a : List ℕ) (k j : ℕ) → k < 25 → j < 8 → getD (group (bytesOf a) k) j 0 ≡ digit (getD a k 0) j
-unfolding byteAt
 lane-byte a k j hk hj =
     let hi : 8 * k + j < 200 = omega arith in
-    let ek : (8 * k + j) / 8 ≡ k = omega arith in
-    let ej : (8 * k + j) % 8 ≡ j = omega arith in
-    group-at (bytesOf a) k j hj ∙ bytes-at a (8 * k + j) hi ∙ ap₂ (λ (u v : ℕ). digit (getD a u 0) v) ek ej
+    group-at (bytesOf a) k j hj ∙ bytes-at a (8 * k + j) hi ∙ byte-of-lane a k j hj
 
 -- lanes to bytes and back
 pub state-of-bytes : (a : List ℕ) → State a → stateOf (bytesOf a) ≡ a
