@@ -1,0 +1,68 @@
+-- The steps of the loops over blocks: a full block is permuted, then bytes go in or out that the block has room for.
+-- Assumes nothing.
+use mathlib.Core.Path.{_≡_, refl, sym, ap, _∙_}
+use mathlib.Core.List.{List, [], _∷_, _++_}
+use Prim.Native.Nat.{ℕ, zero, suc, _+_, _-_, _<_, _≤_}
+use native.Mathlib.Omega.{arith}
+use lib.ListN.{length, take, drop, length-drop, drop-of-length-le, take-append-drop}
+use lib.Seq.{length-take-le, drop-drop}
+use borrow.Author.Tests.{eq-eqb, ne-eqb}
+use Rattle.sponge.specs.Cut.{puts}
+use Rattle.sponge.specs.Published.{xorByte, bytesFrom}
+use Rattle.sponge.specs.Waiting.{At, ready, step, steps}
+use Rattle.sponge.specs.Model.{Sponge, absorbBytes, pad, squeezeBytes, afterBytes}
+use Rattle.sponge.proofs.Waiting.{steps-append, steps-in}
+use Rattle.sponge.proofs.Published.{squeeze-in, after-in}
+
+module _ (P : List ℕ → List ℕ) (rate : ℕ) where
+  pub ready-full : (v : List ℕ) (p : ℕ) → p ≡ rate → record { value = P v; position = 0 } ≡ ready P rate (record { value = v; position = p })
+  ready-full v p e = rw (eq-eqb p rate e)
+
+  pub ready-other : (v : List ℕ) (p : ℕ) → p < rate → record { value = v; position = p } ≡ ready P rate (record { value = v; position = p })
+  ready-other v p h = rw (ne-eqb p rate (λ e. omega arith))
+
+  -- v and `at` are the lanes and the position after the test for a full block
+  module _ (s : Sponge) (v : List ℕ) (at : ℕ) (e : record { value = v; position = at } ≡ ready P rate s) (h : at < rate) where
+    again : ready P rate s ≡ ready P rate (record { value = v; position = at })
+    again = sym e ∙ ready-other v at h
+
+    -- k bytes of s from index i on, which the block has room for
+    pub absorb-part : (piece : List ℕ) (i k : ℕ) → i < length piece → at + k ≤ rate → i + k ≤ length piece
+        → absorbBytes P rate (record { value = puts xorByte v at (take k (drop i piece)); position = at + k }) (drop (i + k) piece) ≡ absorbBytes P rate s (drop i piece)
+    absorb-part piece i k hi hk hl =
+        let n : length (take k (drop i piece)) ≡ k = length-take-le k (drop i piece) (simp length-drop (omega arith)) in
+        let room : at + length (take k (drop i piece)) ≤ rate = omega arith in
+        ap (λ (j : ℕ). absorbBytes P rate (record { value = puts xorByte v at (take k (drop i piece)); position = at + j }) (drop (i + k) piece)) (sym n)
+        ∙ ap (λ (t : Sponge). absorbBytes P rate t (drop (i + k) piece)) (sym (steps-in P xorByte rate v at (take k (drop i piece)) room))
+        ∙ ap (absorbBytes P rate (absorbBytes P rate (record { value = v; position = at }) (take k (drop i piece)))) (sym (drop-drop k i piece))
+        ∙ sym (steps-append P xorByte rate (record { value = v; position = at }) (take k (drop i piece)) (drop k (drop i piece)))
+        ∙ ap (absorbBytes P rate (record { value = v; position = at })) (take-append-drop k (drop i piece))
+        ∙ sym (first (drop i piece) (simp length-drop (omega arith)))
+      where
+        first : (t : List ℕ) → 0 < length t → absorbBytes P rate s t ≡ absorbBytes P rate (record { value = v; position = at }) t
+        first [] g = absurd (let z : 1 ≤ 0 = g in omega arith)
+        first (b ∷ t) g = rw again
+
+    -- k bytes that the block still has
+    pub squeeze-part : (k : ℕ) → 0 < k → at + k ≤ rate → squeezeBytes P rate k s ≡ bytesFrom v at k
+    squeeze-part k g hk = first k g ∙ squeeze-in P rate (omega arith) k v at hk
+      where
+        first : (n : ℕ) → 0 < n → squeezeBytes P rate n s ≡ squeezeBytes P rate n (record { value = v; position = at })
+        first zero g = absurd (let z : 1 ≤ 0 = g in omega arith)
+        first (suc n) g = rw again
+
+    pub after-part : (k : ℕ) → 0 < k → at + k ≤ rate → afterBytes P rate k s ≡ record { value = v; position = at + k }
+    after-part k g hk = first k g ∙ after-in P rate (omega arith) k v at hk
+      where
+        first : (n : ℕ) → 0 < n → afterBytes P rate n s ≡ afterBytes P rate n (record { value = v; position = at })
+        first zero g = absurd (let z : 1 ≤ 0 = g in omega arith)
+        first (suc n) g = rw again
+
+    -- the last byte, 80 and the permutation
+    pub pad-part : (d : ℕ) → record { value = P (xorByte (xorByte v at d) (rate - 1) 0x80); position = 0 } ≡ pad P rate s d
+    unfolding pad
+    pad-part d = rw (← e)
+
+  -- no bytes are left
+  pub absorb-done : (s : Sponge) (piece : List ℕ) (i : ℕ) → length piece ≤ i → absorbBytes P rate s (drop i piece) ≡ s
+  absorb-done s piece i h = ap (absorbBytes P rate s) (drop-of-length-le piece h)

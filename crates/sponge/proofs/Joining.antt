@@ -1,0 +1,90 @@
+-- What follows for every machine that meets `Laws`: pieces in a row are the joined piece, nothing changes nothing, bytes squeezed in
+-- a row are squeezed at once, and equal transcripts leave the same run.
+-- Assumes nothing.
+use mathlib.Core.Path.{_≡_, refl, sym, ap, _∙_}
+use mathlib.Core.List.{List, [], _++_}
+use mathlib.Core.Bool.{true}
+use Prim.Native.Nat.{ℕ, zero, suc, _+_, _≤_}
+use native.Mathlib.Nat.{add-zero, add-assoc}
+use native.Mathlib.Omega.{arith}
+use lib.ListN.{length, length-append}
+use lib.Dec.{eqb, leb}
+use borrow.Author.Tests.{eq-eqb, le-leb}
+use Rattle.sponge.specs.Transcript.{Call, Call.absorb, Call.squeeze, Rules, Reply, reply, statusOf}
+use Rattle.sponge.specs.Runs.{Run, Machine, worked, bytesOut, runStatus, perform, runOf}
+use Rattle.sponge.specs.Streaming.{told, ran}
+use Rattle.sponge.proofs.Streaming.{Laws, streaming}
+
+-- ---- of every machine, whatever the run
+
+module _ {S A : Type 0} (U : Rules A) (M : Machine S A) where
+  -- a refused call hands back the run that it got, and gives no byte
+  pub refused : (r : Run S) (c : Call A) (n : ℕ) → perform U M r c .status ≡ suc n → (perform U M r c .left ≡ r) × (perform U M r c .bytes ≡ [])
+  unfolding perform
+  refused r c n e = by (runStatus U M r c) e
+    where
+      by : (v : ℕ) → reply v (bytesOut U M r c) (worked U M r c) r .status ≡ suc n
+          → (reply v (bytesOut U M r c) (worked U M r c) r .left ≡ r) × (reply v (bytesOut U M r c) (worked U M r c) r .bytes ≡ [])
+      by zero e = absurd (omega arith)
+      by (suc v) e = (refl, refl)
+
+  -- an absorb with status 0 grew the total by the piece's length
+  pub absorb-grows : (r : Run S) (p : List ℕ) → perform U M r (absorb p) .status ≡ 0 → perform U M r (absorb p) .left .absorbed ≡ r .absorbed + length p
+  unfolding perform
+  absorb-grows r p e = by (runStatus U M r (absorb p)) e
+    where
+      by : (v : ℕ) → reply v (bytesOut U M r (absorb p)) (worked U M r (absorb p)) r .status ≡ 0
+          → reply v (bytesOut U M r (absorb p)) (worked U M r (absorb p)) r .left .absorbed ≡ r .absorbed + length p
+      by zero e = refl
+      by (suc v) e = absurd (omega arith)
+
+-- what a machine owes beside `Laws`: a run that 5 does not refuse is one after each call with status 0
+pub Stays : {S A : Type 0} → Rules A → Machine S A → Type 0
+Stays {S} {A} U M = (r : Run S) (c : Call A) → M .reachable r ≡ true → statusOf U (r .phase) (r .absorbed) (r .squeezed) c ≡ 0 → M .reachable (worked U M r c) ≡ true
+
+-- ---- of every run that 5 does not refuse, reached or not
+
+module _ {S A : Type 0} (U : Rules A) (M : Machine S A) (L : Laws U M) (stays : Stays U M) where
+  pub absorb-absorb : (r : Run S) (a b : List ℕ) → M .reachable r ≡ true → r .phase ≡ 0 → r .absorbed + length (a ++ b) ≤ U .inputLimit
+      → perform U M (perform U M r (absorb a) .left) (absorb b) ≡ perform U M r (absorb (a ++ b))
+  unfolding perform Stays
+  absorb-absorb r a b h o l =
+      let l′ : r .absorbed + (length a + length b) ≤ U .inputLimit = rw length-append at l in
+      let open0 : eqb (r .phase) 0 ≡ true = eq-eqb _ _ o in
+      let first : leb (r .absorbed + length a) (U .inputLimit) ≡ true = le-leb (r .absorbed + length a) (U .inputLimit) (omega arith) in
+      let second : leb (r .absorbed + length a + length b) (U .inputLimit) ≡ true = le-leb (r .absorbed + length a + length b) (U .inputLimit) (omega arith) in
+      let whole : leb (r .absorbed + length (a ++ b)) (U .inputLimit) ≡ true = le-leb (r .absorbed + length (a ++ b)) (U .inputLimit) l in
+      let after-a : perform U M r (absorb a) ≡ record { status = 0; bytes = []; left = worked U M r (absorb a) } = rw (h, open0, first) in
+      let h′ : M .reachable (worked U M r (absorb a)) ≡ true = stays r (absorb a) h (rw (open0, first)) in
+      rw after-a (rw (h′, h, open0, second, whole) (rw (L .absorb-append (r .absorbed) (r .state) a b, length-append a b, ← add-assoc)))
+
+  pub absorb-nothing : (r : Run S) → M .reachable r ≡ true → r .phase ≡ 0 → r .absorbed ≤ U .inputLimit
+      → perform U M r (absorb []) ≡ record { status = 0; bytes = []; left = r }
+  unfolding perform
+  absorb-nothing r h o l =
+      let open0 : eqb (r .phase) 0 ≡ true = eq-eqb _ _ o in
+      let fits : leb (r .absorbed) (U .inputLimit) ≡ true = le-leb (r .absorbed) (U .inputLimit) l in
+      rw (h, open0, add-zero, fits, L .absorb-nothing (r .absorbed) (r .state))
+
+  -- the bytes are the joined ones, and the run left is the same
+  pub squeeze-squeeze : (r : Run S) (m n : ℕ) → M .reachable r ≡ true → r .phase ≡ 1 → r .squeezed + (m + n) ≤ U .outputLimit
+      → record {
+        status = perform U M (perform U M r (squeeze m) .left) (squeeze n) .status;
+        bytes = perform U M r (squeeze m) .bytes ++ perform U M (perform U M r (squeeze m) .left) (squeeze n) .bytes;
+        left = perform U M (perform U M r (squeeze m) .left) (squeeze n) .left;
+      } ≡ perform U M r (squeeze (m + n))
+  unfolding perform Stays
+  squeeze-squeeze r m n h o l =
+      let open1 : eqb (r .phase) 1 ≡ true = eq-eqb _ _ o in
+      let first : leb (r .squeezed + m) (U .outputLimit) ≡ true = le-leb (r .squeezed + m) (U .outputLimit) (omega arith) in
+      let second : leb (r .squeezed + m + n) (U .outputLimit) ≡ true = le-leb (r .squeezed + m + n) (U .outputLimit) (omega arith) in
+      let whole : leb (r .squeezed + (m + n)) (U .outputLimit) ≡ true = le-leb (r .squeezed + (m + n)) (U .outputLimit) l in
+      let after-m : perform U M r (squeeze m) ≡ record { status = 0; bytes = M .squeeze m (r .state); left = worked U M r (squeeze m) } = rw (h, open1, first) in
+      let h′ : M .reachable (worked U M r (squeeze m)) ≡ true = stays r (squeeze m) h (rw (open1, first)) in
+      rw after-m (rw (h′, h, open1, second, whole) (rw (L .after-add m n (r .state), L .squeeze-add m n (r .state), ← add-assoc)))
+
+-- ---- of reached runs
+
+module _ {S A : Type 0} (U : Rules A) (M : Machine S A) (L : Laws U M) where
+  pub equal-transcripts : (cs ds : List (Call A)) → told U M cs .left ≡ told U M ds .left → ran U M cs .left ≡ ran U M ds .left
+  equal-transcripts cs ds e = streaming U M L cs .run ∙ ap (runOf U M) e ∙ sym (streaming U M L ds .run)

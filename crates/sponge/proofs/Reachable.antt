@@ -1,0 +1,134 @@
+-- Status 5 exactly when no list of calls from a fresh run reaches this phase, these totals and these positions: both directions,
+-- for a machine whose test looks at nothing else.
+-- Assumes nothing.
+use mathlib.Core.Path.{_≡_, refl, sym, ap, _∙_, subst}
+use mathlib.Core.List.{List, [], _∷_}
+use mathlib.Core.Bool.{Bool, true, false, cond}
+use Prim.Native.Nat.{ℕ, zero, suc, _+_, _≤_}
+use native.Mathlib.Nat.{zero-add}
+use native.Mathlib.Omega.{arith}
+use lib.ListN.{length, replicate, length-replicate}
+use lib.Dec.{eqb, leb}
+use borrow.Author.Tests.{le-leb}
+use Rattle.sponge.specs.Status.{unreachable}
+use Rattle.sponge.specs.Transcript.{Call, Call.absorb, Call.finalize, Call.squeeze, Phase, Phase.absorbing, Phase.squeezing, phaseNumber, Transcript, Rules, reply, statusOf, transcribe}
+use Rattle.sponge.specs.Runs.{Run, Machine, worked, bytesOut, runStatus, perform, runOf}
+use Rattle.sponge.specs.Streaming.{told, ran}
+use Rattle.sponge.proofs.Streaming.{Fits, Laws, streaming, told-fits}
+
+-- ---- every transcript within the limits, finalized with what is taken, is told by a list of calls
+
+module _ {S A : Type 0} (U : Rules A) (M : Machine S A) where
+  abbrev pub callsTo : List ℕ → Phase A → ℕ → List (Call A)
+  callsTo f absorbing n = absorb f ∷ []
+  callsTo f (squeezing a) n = absorb f ∷ finalize a ∷ squeeze n ∷ []
+
+  abbrev pub Taken : Phase A → Type 0
+  Taken absorbing = Unit {0}
+  Taken (squeezing a) = U .argument a ≡ 0
+
+  pub reach : (f : List ℕ) (h : Phase A) (n : ℕ) → Fits U (record { absorbed = f; phase = h; squeezed = n }) → Taken h
+      → told U M (callsTo f h n) .left ≡ record { absorbed = f; phase = h; squeezed = n }
+  unfolding transcribe
+  reach f absorbing zero l t = rw (zero-add, le-leb (length f) (U .inputLimit) (l .input-fits))
+  reach f absorbing (suc n) l t = absurd (omega arith)
+  reach f (squeezing a) n l t = rw (zero-add, le-leb (length f) (U .inputLimit) (l .input-fits)) (rw t (rw (zero-add, le-leb n (U .outputLimit) (l .output-fits))))
+
+-- a list of calls from a fresh run that leaves r's phase, totals and positions
+pub record Reached {S A : Type 0} (U : Rules A) (M : Machine S A) (positions : S → List ℕ) (r : Run S) : Type 0 where
+  pub calls : List (Call A)
+  pub phase-is : ran U M calls .left .phase ≡ r .phase
+  pub absorbed-is : ran U M calls .left .absorbed ≡ r .absorbed
+  pub squeezed-is : ran U M calls .left .squeezed ≡ r .squeezed
+  pub positions-are : positions (ran U M calls .left .state) ≡ positions (r .state)
+
+-- what the test of status 5 looks at: the phase, the totals, and the positions due for them
+pub record Shape {S A : Type 0} (U : Rules A) (positions : S → List ℕ) (due : ℕ → ℕ → ℕ → List ℕ) (r : Run S) : Type 0 where
+  pub phase-fits : r .phase ≤ 1
+  pub absorbed-fits : r .absorbed ≤ U .inputLimit
+  pub squeezed-fits : r .squeezed ≤ cond (eqb (r .phase) 0) 0 (U .outputLimit)
+  pub positions-due : positions (r .state) ≡ due (r .phase) (r .absorbed) (r .squeezed)
+
+module _ {S A : Type 0} (U : Rules A) (M : Machine S A) (L : Laws U M) (positions : S → List ℕ) (due : ℕ → ℕ → ℕ → List ℕ)
+    (shape : (r : Run S) → M .reachable r ≡ true → Shape U positions due r) (shaped : (r : Run S) → Shape U positions due r → M .reachable r ≡ true) where
+  -- ---- a run that the test passes is reached by a list of calls
+
+  module _ (a : A) (taken : U .argument a ≡ 0) where
+    reached-by : (h : Phase A) → Taken U M h → (s : S) (n k : ℕ) → M .reachable (record { state = s; phase = phaseNumber h; absorbed = n; squeezed = k }) ≡ true
+        → Fits U (record { absorbed = replicate n 0; phase = h; squeezed = k }) → Reached U M positions (record { state = s; phase = phaseNumber h; absorbed = n; squeezed = k })
+    reached-by h t s n k e fits =
+        let b : Transcript A = record { absorbed = replicate n 0; phase = h; squeezed = k } in
+        let is : ran U M (callsTo U M (replicate n 0) h k) .left ≡ runOf U M b =
+        streaming U M L (callsTo U M (replicate n 0) h k) .run ∙ ap (runOf U M) (reach U M (replicate n 0) h k fits t) in
+        let l : length {A = ℕ} (replicate n 0) ≡ n = length-replicate n 0 in
+        record {
+          calls = callsTo U M (replicate n 0) h k;
+          phase-is = ap (λ (r : Run S). r .phase) is;
+          absorbed-is = ap (λ (r : Run S). r .absorbed) is ∙ l;
+          squeezed-is = ap (λ (r : Run S). r .squeezed) is;
+          positions-are =
+              ap (λ (r : Run S). positions (r .state)) is ∙ shape (runOf U M b) (L .run-reachable b fits) .positions-due
+              ∙ ap (λ (m : ℕ). due (phaseNumber h) m k) l ∙ sym (shape (record { state = s; phase = phaseNumber h; absorbed = n; squeezed = k }) e .positions-due);
+        }
+
+    reached-at : (s : S) (h n k : ℕ) → M .reachable (record { state = s; phase = h; absorbed = n; squeezed = k }) ≡ true
+        → Reached U M positions (record { state = s; phase = h; absorbed = n; squeezed = k })
+    reached-at s zero n k e =
+        let t = shape _ e in
+        reached-by absorbing tt s n k e (record { input-fits = rw (length-replicate {A = ℕ} n 0) (t .absorbed-fits); output-fits = t .squeezed-fits })
+    reached-at s (suc zero) n k e =
+        let t = shape _ e in
+        reached-by (squeezing a) taken s n k e (record { input-fits = rw (length-replicate {A = ℕ} n 0) (t .absorbed-fits); output-fits = t .squeezed-fits })
+    reached-at s (suc (suc h)) n k e = absurd (let l = shape _ e .phase-fits in omega arith)
+
+    pub reachable-reached : (r : Run S) → M .reachable r ≡ true → Reached U M positions r
+    reachable-reached r e = reached-at (r .state) (r .phase) (r .absorbed) (r .squeezed) e
+
+  -- ---- a run with the phase, the totals and the positions that a list of calls reaches passes the test
+
+  pub reached-reachable : (r : Run S) → Reached U M positions r → M .reachable r ≡ true
+  reached-reachable r g =
+      let q : Run S = ran U M (g .calls) .left in
+      let passes : M .reachable q ≡ true = rw (streaming U M L (g .calls) .run) (L .run-reachable _ (told-fits U M L (g .calls))) in
+      let t : Shape U positions due q = shape q passes in
+      shaped r record {
+        phase-fits = subst (λ (n : ℕ). n ≤ 1) (g .phase-is) (t .phase-fits);
+        absorbed-fits = subst (λ (n : ℕ). n ≤ U .inputLimit) (g .absorbed-is) (t .absorbed-fits);
+        squeezed-fits = rw (g .phase-is, g .squeezed-is) at (t .squeezed-fits);
+        positions-due = sym (g .positions-are) ∙ t .positions-due ∙ rw (g .phase-is, g .absorbed-is, g .squeezed-is);
+      }
+
+-- ---- 5 is the status of that test and of no other
+
+module _ {S A : Type 0} (U : Rules A) (M : Machine S A) (other : (a : A) → U .argument a ≡ unreachable → ⊥) where
+  limit-other : (t o : Bool) (n m : ℕ) → (n ≡ unreachable → ⊥) → (m ≡ unreachable → ⊥) → cond o (cond t 0 n) m ≡ unreachable → ⊥
+  limit-other true true n m f g e = omega arith
+  limit-other false true n m f g e = f e
+  limit-other t false n m f g e = g e
+
+  argument-other : (o : Bool) (a : A) → cond o (U .argument a) 3 ≡ unreachable → ⊥
+  argument-other true a e = other a e
+  argument-other false a e = omega arith
+
+  status-other : (h n k : ℕ) (c : Call A) → statusOf U h n k c ≡ unreachable → ⊥
+  status-other h n k (absorb p) e = limit-other (leb (n + length p) (U .inputLimit)) (eqb h 0) 2 3 (λ e. omega arith) (λ e. omega arith) e
+  status-other h n k (finalize a) e = argument-other (eqb h 0) a e
+  status-other h n k (squeeze j) e = limit-other (leb (k + j) (U .outputLimit)) (eqb h 1) 6 3 (λ e. omega arith) (λ e. omega arith) e
+
+  reply-status : (r : Run S) (c : Call A) → perform U M r c .status ≡ runStatus U M r c
+  unfolding perform
+  reply-status r c = by (runStatus U M r c)
+    where
+      by : (v : ℕ) → reply v (bytesOut U M r c) (worked U M r c) r .status ≡ v
+      by zero = refl
+      by (suc v) = refl
+
+  pub status-five : (r : Run S) (c : Call A) → perform U M r c .status ≡ unreachable → M .reachable r ≡ false
+  status-five r c e = by (M .reachable r) (sym (reply-status r c) ∙ e)
+    where
+      by : (t : Bool) → cond t (statusOf U (r .phase) (r .absorbed) (r .squeezed) c) unreachable ≡ unreachable → t ≡ false
+      by true e = absurd (status-other (r .phase) (r .absorbed) (r .squeezed) c e)
+      by false e = refl
+
+  pub five-status : (r : Run S) (c : Call A) → M .reachable r ≡ false → perform U M r c .status ≡ unreachable
+  five-status r c e = reply-status r c ∙ rw e

@@ -1,0 +1,154 @@
+-- Demand 3 once for every function: over every list of calls from a fresh run, a machine that meets `Laws` does what the transcript tells.
+-- Assumes nothing.
+use mathlib.Core.Path.{_≡_, refl, sym, ap, _∙_}
+use mathlib.Core.List.{List, [], _∷_, _++_, append-nil, append-assoc}
+use mathlib.Core.Bool.{Bool, true, false, cond}
+use Prim.Native.Nat.{ℕ, zero, suc, _+_, _≤_, zero-le}
+use native.Mathlib.Nat.{zero-add}
+use native.Mathlib.Omega.{arith}
+use lib.ListN.{length, drop, length-append}
+use lib.Seq.{drop-at}
+use borrow.Author.Tests.{leb-true}
+use Rattle.sponge.specs.Transcript.{Call, Call.absorb, Call.finalize, Call.squeeze, Phase, Phase.absorbing, Phase.squeezing, phaseNumber, Transcript, freshTranscript, Rules, Reply, statusOf, outputOf, written, given, transcribe}
+use Rattle.sponge.specs.Runs.{Run, Machine, worked, bytesOut, perform, stateOf, runOf}
+use Rattle.sponge.specs.Streaming.{History, history, joined, Streaming}
+
+pub cond-zero : (t : Bool) (n : ℕ) → cond t 0 (suc n) ≡ 0 → t ≡ true
+cond-zero true n e = refl
+cond-zero false n e = absurd (omega arith)
+
+nothing : (l : List ℕ) → length l ≡ 0 → [] ≡ l
+nothing [] e = refl
+nothing (x ∷ l) e = absurd (omega arith)
+
+-- the totals are within the limits, and nothing is squeezed before the finalize
+module _ {A : Type 0} (U : Rules A) where
+  abbrev pub outputMost : Phase A → ℕ
+  outputMost absorbing = 0
+  outputMost (squeezing a) = U .outputLimit
+
+  pub record Fits (t : Transcript A) : Type 0 where
+    pub input-fits : length (t .absorbed) ≤ U .inputLimit
+    pub output-fits : t .squeezed ≤ outputMost (t .phase)
+
+  pub fits-fresh : Fits freshTranscript
+  fits-fresh = record { input-fits = zero-le; output-fits = zero-le }
+
+module _ {S A : Type 0} (U : Rules A) (M : Machine S A) where
+  -- what a machine owes
+  pub record Laws : Type 0 where
+    pub absorb-nothing : (n : ℕ) (s : S) → M .absorb n s [] ≡ s
+    pub absorb-append : (n : ℕ) (s : S) (p q : List ℕ) → M .absorb n s (p ++ q) ≡ M .absorb (n + length p) (M .absorb n s p) q
+    pub after-zero : (s : S) → M .after 0 s ≡ s
+    pub after-add : (m n : ℕ) (s : S) → M .after (m + n) s ≡ M .after n (M .after m s)
+    pub squeeze-add : (m n : ℕ) (s : S) → M .squeeze (m + n) s ≡ M .squeeze m s ++ M .squeeze n (M .after m s)
+    pub squeeze-length : (n : ℕ) (s : S) → length (M .squeeze n s) ≡ n
+    pub squeeze-output : (f : List ℕ) (a : A) (n : ℕ) → M .squeeze n (M .finalize (length f) (M .absorb 0 (M .fresh) f) a) ≡ U .output f a n
+    pub run-reachable : (t : Transcript A) → Fits U t → M .reachable (runOf U M t) ≡ true
+
+module _ {S A : Type 0} (U : Rules A) (M : Machine S A) (L : Laws U M) where
+  output-add : (f : List ℕ) (a : A) (n k : ℕ) → U .output f a (n + k) ≡ U .output f a n ++ M .squeeze k (stateOf U M f (squeezing a) n)
+  output-add f a n k = rw (← L .squeeze-output f a (n + k), ← L .squeeze-output f a n) (L .squeeze-add n k _)
+
+  output-next : (f : List ℕ) (a : A) (n k : ℕ) → drop n (U .output f a (n + k)) ≡ M .squeeze k (stateOf U M f (squeezing a) n)
+  output-next f a n k = rw (output-add f a n k) (drop-at (U .output f a n) _ n (rw (← L .squeeze-output f a n) (L .squeeze-length n _)))
+
+  -- all bytes that were given so far
+  outputSo : Transcript A → List ℕ
+  outputSo t = outputOf U t (t .squeezed)
+
+  -- ---- one call
+
+  -- a call with status 0: the run does what the transcript writes
+  record Done (t : Transcript A) (c : Call A) : Type 0 where
+    bytes : bytesOut U M (runOf U M t) c ≡ given U t c
+    run : worked U M (runOf U M t) c ≡ runOf U M (written U t c)
+    fits : Fits U (written U t c)
+    extends : outputSo t ++ given U t c ≡ outputSo (written U t c)
+
+  done : (f : List ℕ) (h : Phase A) (n : ℕ) (c : Call A) → Fits U (record { absorbed = f; phase = h; squeezed = n })
+      → statusOf U (phaseNumber h) (length f) n c ≡ 0 → Done (record { absorbed = f; phase = h; squeezed = n }) c
+  unfolding outputSo
+  done f (squeezing a) n (absorb p) h e = absurd (omega arith)
+  done f absorbing n (absorb p) h e = record {
+    bytes = refl;
+    run = rw (L .absorb-append 0 (M .fresh) f p, zero-add, length-append f p);
+    fits = record { input-fits = rw (length-append f p) (leb-true _ _ (cond-zero _ _ e)); output-fits = h .output-fits };
+    extends = refl;
+  }
+  done f (squeezing a) n (finalize b) h e = absurd (omega arith)
+  done f absorbing (suc n) (finalize b) h e = absurd (omega arith)
+  done f absorbing zero (finalize b) h e = record {
+    bytes = refl;
+    run = rw (L .after-zero (M .finalize (length f) (M .absorb 0 (M .fresh) f) b));
+    fits = record { input-fits = h .input-fits; output-fits = zero-le };
+    extends = nothing _ (rw (← L .squeeze-output f b 0) (L .squeeze-length 0 _));
+  }
+  done f (squeezing a) n (squeeze k) h e = record {
+    bytes = sym (output-next f a n k);
+    run = rw (L .after-add n k (M .finalize (length f) (M .absorb 0 (M .fresh) f) a));
+    fits = record { input-fits = h .input-fits; output-fits = leb-true _ _ (cond-zero _ _ e) };
+    extends = rw (output-next f a n k) (sym (output-add f a n k));
+  }
+  done f absorbing n (squeeze k) h e = absurd (omega arith)
+
+  runReply : Reply (Transcript A) → Reply (Run S)
+  runReply r = record { status = r .status; bytes = r .bytes; left = runOf U M (r .left) }
+
+  record One (t : Transcript A) (c : Call A) : Type 0 where
+    reply-is : perform U M (runOf U M t) c ≡ runReply (transcribe U t c)
+    fits : Fits U (transcribe U t c .left)
+    extends : outputSo t ++ transcribe U t c .bytes ≡ outputSo (transcribe U t c .left)
+
+  one : (t : Transcript A) (c : Call A) → Fits U t → One t c
+  unfolding perform transcribe runReply
+  one t c h = by (statusOf U (phaseNumber (t .phase)) (length (t .absorbed)) (t .squeezed) c) refl
+    where
+      by : (v : ℕ) → statusOf U (phaseNumber (t .phase)) (length (t .absorbed)) (t .squeezed) c ≡ v → One t c
+      by zero e =
+          let g : Done t c = done (t .absorbed) (t .phase) (t .squeezed) c h e in
+          record {
+            reply-is = rw (L .run-reachable t h, e, g .bytes, g .run);
+            fits = rw e (g .fits);
+            extends = rw e (g .extends);
+          }
+      by (suc v) e = record {
+        reply-is = rw (L .run-reachable t h, e);
+        fits = rw e h;
+        extends = rw e (append-nil (outputSo t));
+      }
+
+  -- ---- every list of calls
+
+  record Same (t : Transcript A) (cs : List (Call A)) : Type 0 where
+    statuses : history (perform U M) (runOf U M t) cs .statuses ≡ history (transcribe U) t cs .statuses
+    run : history (perform U M) (runOf U M t) cs .left ≡ runOf U M (history (transcribe U) t cs .left)
+    bytes : history (perform U M) (runOf U M t) cs .bytes ≡ history (transcribe U) t cs .bytes
+    output : outputSo t ++ joined (history (perform U M) (runOf U M t) cs .bytes) ≡ outputSo (history (transcribe U) t cs .left)
+    fits : Fits U (history (transcribe U) t cs .left)
+
+  same : (cs : List (Call A)) (t : Transcript A) → Fits U t → Same t cs
+  unfolding runReply
+  same [] t h = record { statuses = refl; run = refl; bytes = refl; output = append-nil (outputSo t); fits = h }
+  same (c ∷ cs) t h =
+      let o : One t c = one t c h in
+      let s : Same (transcribe U t c .left) cs = same cs (transcribe U t c .left) (o .fits) in
+      let rest : List ℕ = joined (history (perform U M) (runOf U M (transcribe U t c .left)) cs .bytes) in
+      record {
+        statuses = rw (o .reply-is, s .statuses);
+        run = ap (λ (r : Reply (Run S)). history (perform U M) (r .left) cs .left) (o .reply-is) ∙ s .run;
+        bytes = rw (o .reply-is, s .bytes);
+        output = rw (o .reply-is) (sym (append-assoc (outputSo t) _ rest) ∙ ap (λ (x : List ℕ). x ++ rest) (o .extends) ∙ s .output);
+        fits = s .fits;
+      }
+
+  pub streaming : (cs : List (Call A)) → Streaming U M cs
+  unfolding outputSo
+  streaming cs =
+      let s : Same freshTranscript cs = same cs freshTranscript (fits-fresh U) in
+      let e : M .absorb 0 (M .fresh) [] ≡ M .fresh = L .absorb-nothing 0 (M .fresh) in
+      record { statuses = rw e at (s .statuses); bytes = rw e at (s .bytes); run = rw e at (s .run); output = rw e at (s .output) }
+
+  -- no list of calls passes the limits
+  pub told-fits : (cs : List (Call A)) → Fits U (history (transcribe U) freshTranscript cs .left)
+  told-fits cs = same cs freshTranscript (fits-fresh U) .fits

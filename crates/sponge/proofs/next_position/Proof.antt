@@ -1,0 +1,29 @@
+use mathlib.Core.Path.{_≡_, ap, _∙_}
+use mathlib.Core.List.{List}
+use Prim.Native.Nat.{ℕ, _<_}
+use native.Mathlib.Omega.{arith}
+use borrow.Author.Needs.{needs}
+use Rattle.keccak.specs.Permutation.{permuted}
+use Rattle.sponge.proofs.Blocks.{ready-full, ready-other}
+use Rattle.sponge.proofs.next_position.Statement.{statement}
+use Rattle.sponge.proofs.next_position.Tie as tie
+use Rattle.sponge.proofs.next_position.Reads as reads
+use Rattle.sponge.proofs.next_position.Lts as lts
+use Rattle.keccak.proofs.permute.Reads as permute-reads
+
+permute-requires : tie.Need-permute-requires
+permute-requires c κs = search needs
+
+returns : tie.Need-returns
+returns c =
+    let a = c .before .before .before .args in
+    (omega arith, ap (λ (m : List ℕ). record { value = m; position = 0 }) (c .permute .ensures) ∙ ready-full permuted (a .rate) (a .lanes .now) (a .position) (c .before .before .if1 .taken))
+
+returns-2 : tie.Need-returns-2
+returns-2 c =
+    let a = c .before .args in
+    let h : a .position < a .rate = omega (arith, c .if1 .left) in
+    (h, ready-other permuted (a .rate) (a .lanes .now) (a .position) h)
+
+pub next-position-spec : {M : Type 1} → statement M
+next-position-spec = tie.close (tie.spec permute-requires returns returns-2)

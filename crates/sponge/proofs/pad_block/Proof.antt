@@ -1,0 +1,50 @@
+use mathlib.Core.Path.{_≡_, ap, sym, _∙_}
+use mathlib.Core.List.{List}
+use Prim.Native.Nat.{ℕ, _-_}
+use native.Mathlib.Omega.{arith}
+use borrow.Author.Needs.{needs}
+use Rattle.keccak.specs.Permutation.{permuted}
+use Rattle.sponge.specs.Published.{xorByte}
+use Rattle.sponge.proofs.Blocks.{pad-part}
+use Rattle.sponge.proofs.pad_block.Statement.{statement}
+use Rattle.sponge.proofs.pad_block.Tie as tie
+use Rattle.sponge.proofs.pad_block.Reads as reads
+use Rattle.sponge.proofs.pad_block.Lts as lts
+use Rattle.keccak.proofs.permute.Reads as permute-reads
+use Rattle.sponge.proofs.block.xor_byte.Reads as xor-byte-reads
+use Rattle.sponge.proofs.next_position.Reads as next-position-reads
+
+next-position-requires : tie.Need-next-position-requires
+next-position-requires c κs = search needs
+
+xor-byte-requires : tie.Need-xor-byte-requires
+xor-byte-requires c κs = omega arith
+
+sub-xor-byte : tie.Need-sub-xor-byte
+sub-xor-byte c = search needs
+
+xor-byte-requires-2 : tie.Need-xor-byte-requires-2
+xor-byte-requires-2 c κs = search needs
+
+permute-requires : tie.Need-permute-requires
+permute-requires c κs = search needs
+
+returns : tie.Need-returns
+returns c =
+    let a = c .before .before .before .before .before .before .before .before .args in
+    let q = c .before .before .before .before .before .before .next-position in
+    ap (λ (m : List ℕ). record { value = m; position = 0 })
+    (c .permute .ensures
+    ∙ ap permuted (c .before .before .xor-byte2 .ensures ∙ ap (λ (m : List ℕ). xorByte m (a .rate - 1) 0x80) (c .before .before .before .before .xor-byte .ensures)))
+    ∙ pad-part permuted (a .rate) (record { value = a .lanes .now; position = a .position }) (q .last .0) (q .result) (q .ensures .1) (q .ensures .0) (a .last)
+
+pub pad-block-spec : {M : Type 1} → statement M
+pad-block-spec =
+    tie.close
+    (tie.spec
+    next-position-requires
+    xor-byte-requires
+    sub-xor-byte
+    xor-byte-requires-2
+    permute-requires
+    returns)

@@ -1,0 +1,48 @@
+use mathlib.Core.Path.{_≡_, sym, _∙_}
+use mathlib.Core.Bool.{true}
+use lib.ListN.{length}
+use borrow.Author.Needs.{needs}
+use borrow.Author.Tests.{not-true, not-false}
+use Rattle.keccak.specs.Permutation.{permuted}
+use Rattle.sponge.specs.Model.{Sponge, valid}
+use Rattle.sponge.proofs.Valid.{valid-fits, squeeze-refused, squeeze-done, output-refused, output-done}
+use Rattle.sponge.proofs.squeeze.Statement.{statement}
+use Rattle.sponge.proofs.squeeze.Tie as tie
+use Rattle.sponge.proofs.squeeze.Reads as reads
+use Rattle.sponge.proofs.squeeze.Lts as lts
+use Rattle.sponge.proofs.is_valid.Reads as is-valid-reads
+use Rattle.sponge.proofs.squeeze_blocks.Reads as squeeze-blocks-reads
+
+-- past the test
+was : (c : tie.Else1) → valid (c .before .before .before .args .rate) (c .before .before .before .args .position) ≡ true
+was c = sym (c .before .is-valid .ensures) ∙ not-false _ (c .if1 .left)
+
+is-valid-requires : tie.Need-is-valid-requires
+is-valid-requires c κs = search needs
+
+returns : tie.Need-returns
+returns c =
+    let a = c .before .before .before .args in
+    let s : Sponge = record { value = a .lanes .now; position = a .position } in
+    let e = sym (c .before .is-valid .ensures) ∙ not-true _ (c .if1 .taken) in
+    (squeeze-refused permuted (a .rate) s e (length (a .out .now)), output-refused permuted (a .rate) s e (a .out .now))
+
+squeeze-blocks-requires : tie.Need-squeeze-blocks-requires
+squeeze-blocks-requires c κs = valid-fits _ _ (was (c .before .before))
+
+same-length : tie.Need-same-length
+same-length c = search needs
+
+returns-2 : tie.Need-returns-2
+returns-2 c =
+    let a = c .before .before .before .before .before .before .before .before .args in
+    let s : Sponge = record { value = a .lanes .now; position = a .position } in
+    let r = c .before .before .squeeze-blocks in
+    let e = was (c .before .before .before .before .before) in (
+      squeeze-done permuted (a .rate) s (record { value = r .last .0; position = r .result }) (length (a .out .now)) e (r .ensures .1),
+      r .ensures .0 ∙ output-done permuted (a .rate) s (a .out .now) e,
+    )
+
+pub squeeze-spec : {M : Type 1} → statement M
+squeeze-spec =
+    tie.close (tie.spec is-valid-requires returns squeeze-blocks-requires same-length returns-2)

@@ -1,0 +1,9 @@
+pub mod Cut
+pub mod Published
+pub mod Waiting
+pub mod Words
+pub mod Model
+pub mod Status
+pub mod Transcript
+pub mod Runs
+pub mod Streaming

@@ -1,0 +1,30 @@
+-- The numbers of document 01's table that calls on runs and in one go answer. Their constants in code stand in src/status.rt.
+-- Assumes nothing.
+use Prim.Native.Nat.{ℕ}
+
+abbrev pub done : ℕ
+done = 0
+
+-- D is 00, or 80 to FF
+abbrev pub badDomain : ℕ
+badDomain = 1
+
+-- the bytes absorbed would pass their limit
+abbrev pub inputTooLong : ℕ
+inputTooLong = 2
+
+-- an absorb or a finalize after the finalize, or a squeeze before it
+abbrev pub wrongPhase : ℕ
+wrongPhase = 3
+
+-- no run reached from a fresh one has this phase, these totals and this position
+abbrev pub unreachable : ℕ
+unreachable = 5
+
+-- the bytes squeezed would pass their limit
+abbrev pub outputTooLong : ℕ
+outputTooLong = 6
+
+-- a call in one go asks for 0 bytes
+abbrev pub badLength : ℕ
+badLength = 7

@@ -1,0 +1,145 @@
+// Bytes in and out of one block of the state: whole words where they stand on a lane's start, single bytes at ragged ends.
+ghost use mathlib.Core.Path.{_≡_};
+ghost use Prim.Native.Nat.{ℕ, _+_, _*_, _<_, _≤_};
+ghost use lib.ListN.{length};
+ghost use Rattle.keccak.specs.State.{byteAt};
+ghost use Rattle.sponge.specs.Cut.{puts};
+ghost use Rattle.sponge.specs.Published.{xorByte, bytesFrom};
+ghost use Rattle.sponge.specs.Words.{wordAt, withWord};
+
+fn wide(x: u8) -> u64
+    ensures { λ r. ⌜ (r ≡ x) × (r < 256) ⌝ }
+{
+    x as u64
+}
+
+pub fn xor_byte(lanes: &mut [u64; 25], at: usize, b: u8)
+    requires { ⌜ at < 200 ⌝ }
+    ensures { λ _. ⌜ now (lanes .exit) ≡ xorByte (now (lanes .entry)) at b ⌝ }
+{
+    let q = at / 8;
+    let s = 8 * (at % 8);
+    lanes[q] = lanes[q] ^ (wide(b) << s);
+}
+
+// Eight bytes from index i on, the least significant first.
+fn word(s: &[u8], i: usize) -> u64
+    requires { ⌜ i + 8 ≤ length (now s) ⌝ }
+    ensures { λ r. ⌜ r ≡ wordAt (now (s .entry)) i ⌝ }
+{
+    wide(s[i])
+        + wide(s[i + 1]) * 0x100
+        + wide(s[i + 2]) * 0x1_0000
+        + wide(s[i + 3]) * 0x100_0000
+        + wide(s[i + 4]) * 0x1_0000_0000
+        + wide(s[i + 5]) * 0x100_0000_0000
+        + wide(s[i + 6]) * 0x1_0000_0000_0000
+        + wide(s[i + 7]) * 0x100_0000_0000_0000
+}
+
+// Bytes XORed into the state from byte `at` on, one by one.
+fn xor_bytes(lanes: &mut [u64; 25], at: usize, s: &[u8])
+    requires { ⌜ at + length (now s) ≤ 200 ⌝ }
+    ensures { λ _. ⌜ now (lanes .exit) ≡ puts xorByte (now (lanes .entry)) at (now (s .entry)) ⌝ }
+{
+    let mut i = 0;
+    while i < s.len() {
+        xor_byte(lanes, at + i, s[i]);
+        i += 1;
+    }
+}
+
+// The same from the start of lane `first` on, in words, and what is left of the bytes one by one.
+fn xor_words(lanes: &mut [u64; 25], first: usize, s: &[u8])
+    requires { ⌜ 8 * first + length (now s) ≤ 200 ⌝ }
+    ensures { λ _. ⌜ now (lanes .exit) ≡ puts xorByte (now (lanes .entry)) (8 * first) (now (s .entry)) ⌝ }
+{
+    let mut q = first;
+    let mut i = 0;
+    while 8 <= s.len() - i {
+        lanes[q] = lanes[q] ^ word(s, i);
+        q += 1;
+        i += 8;
+    }
+    xor_bytes(lanes, 8 * q, &s[i..]);
+}
+
+// The same from any byte on.
+pub fn xor_part(lanes: &mut [u64; 25], at: usize, s: &[u8])
+    requires { ⌜ at + length (now s) ≤ 200 ⌝ }
+    ensures { λ _. ⌜ now (lanes .exit) ≡ puts xorByte (now (lanes .entry)) at (now (s .entry)) ⌝ }
+{
+    let h = (8 - at % 8) % 8;
+    if s.len() <= h {
+        xor_bytes(lanes, at, s);
+    } else {
+        xor_bytes(lanes, at, &s[..h]);
+        xor_words(lanes, (at + h) / 8, &s[h..]);
+    }
+}
+
+fn byte_of(lanes: &[u64; 25], at: usize) -> u8
+    requires { ⌜ at < 200 ⌝ }
+    ensures { λ r. ⌜ r ≡ byteAt (now (lanes .entry)) at ⌝ }
+{
+    let q = at / 8;
+    let s = 8 * (at % 8);
+    let w = (lanes[q] >> s) % 256;
+    w as u8
+}
+
+// A word's eight bytes, the least significant first, at index i.
+fn put_word(out: &mut [u8], i: usize, w: u64)
+    requires { ⌜ i + 8 ≤ length (now out) ⌝ }
+    ensures { λ _. ⌜ now (out .exit) ≡ withWord (now (out .entry)) i w ⌝ }
+{
+    out[i] = (w % 256) as u8;
+    out[i + 1] = ((w >> 8) % 256) as u8;
+    out[i + 2] = ((w >> 16) % 256) as u8;
+    out[i + 3] = ((w >> 24) % 256) as u8;
+    out[i + 4] = ((w >> 32) % 256) as u8;
+    out[i + 5] = ((w >> 40) % 256) as u8;
+    out[i + 6] = ((w >> 48) % 256) as u8;
+    out[i + 7] = ((w >> 56) % 256) as u8;
+}
+
+// The bytes of the state from byte `at` on, one by one.
+fn read_bytes(lanes: &[u64; 25], at: usize, out: &mut [u8])
+    requires { ⌜ at + length (now out) ≤ 200 ⌝ }
+    ensures { λ _. ⌜ now (out .exit) ≡ bytesFrom (now (lanes .entry)) at (length (now (out .entry))) ⌝ }
+{
+    let mut i = 0;
+    while i < out.len() {
+        out[i] = byte_of(lanes, at + i);
+        i += 1;
+    }
+}
+
+// The same from the start of lane `first` on, in words, and what is left one by one.
+fn read_words(lanes: &[u64; 25], first: usize, out: &mut [u8])
+    requires { ⌜ 8 * first + length (now out) ≤ 200 ⌝ }
+    ensures { λ _. ⌜ now (out .exit) ≡ bytesFrom (now (lanes .entry)) (8 * first) (length (now (out .entry))) ⌝ }
+{
+    let mut q = first;
+    let mut i = 0;
+    while 8 <= out.len() - i {
+        put_word(out, i, lanes[q]);
+        q += 1;
+        i += 8;
+    }
+    read_bytes(lanes, 8 * q, &mut out[i..]);
+}
+
+// The same from any byte on.
+pub fn read_part(lanes: &[u64; 25], at: usize, out: &mut [u8])
+    requires { ⌜ at + length (now out) ≤ 200 ⌝ }
+    ensures { λ _. ⌜ now (out .exit) ≡ bytesFrom (now (lanes .entry)) at (length (now (out .entry))) ⌝ }
+{
+    let h = (8 - at % 8) % 8;
+    if out.len() <= h {
+        read_bytes(lanes, at, out);
+    } else {
+        read_bytes(lanes, at, &mut out[..h]);
+        read_words(lanes, (at + h) / 8, &mut out[h..]);
+    }
+}
