@@ -1,11 +1,13 @@
+-- Laws of the sponge. Crates above use `Published` (the fold computes the published sponge), `Position`, `Valid` (the calls' two cases),
+-- `Streaming`, `Joining` and `Reachable`; the rest serves the functions' own proofs.
 pub mod Xor
 pub mod Waiting
 pub mod Published
 pub mod Position
+pub mod Valid
 pub mod Streaming
 pub mod Joining
 pub mod Reachable
 mod Words
 mod Output
 mod Blocks
-mod Valid

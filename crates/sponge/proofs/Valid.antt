@@ -1,12 +1,13 @@
--- The two cases of each call: a rate and a position that are valid, and others.
+-- The two cases of each call, a valid rate and position and others: what callers know of the calls' contracts.
 -- Assumes nothing.
 use mathlib.Core.Path.{_≡_, refl, sym, ap, _∙_}
 use mathlib.Core.List.{List}
 use mathlib.Core.Bool.{Bool, true, false, _&&_, and-eq-true-iff}
 use Prim.Native.Nat.{ℕ, _≤_, _<_}
-use lib.ListN.{length}
+use lib.ListN.{length, replicate}
 use lib.Dec.{leb}
-use borrow.Author.Tests.{leb-true}
+use borrow.Author.Tests.{leb-true, le-leb}
+use Rattle.sponge.specs.Published.{zeroLanes}
 use Rattle.sponge.specs.Status.{done, unreachable}
 use Rattle.sponge.specs.Model.{Sponge, absorbBytes, pad, squeezeBytes, afterBytes, valid, Outcome, absorbCall, padCall, squeezeCall, squeezeOutput}
 
@@ -17,44 +18,49 @@ valid-fits rate position e =
     let b = and-eq-true-iff (leb rate 200) (leb position rate) .0 (a .1) in
     (leb-true _ _ (b .1), leb-true _ _ (a .0), leb-true _ _ (b .0))
 
-module _ (P : List ℕ → List ℕ) (rate : ℕ) (s t : Sponge) where
-  -- what a call that is done leaves, where t is what the work made of s
-  abbrev Done : Outcome → Type 0
-  Done o = _≡_ {A = Outcome} (record { status = done; state = t }) o
+pub fits-valid : (rate position : ℕ) → position ≤ rate → 0 < rate → rate ≤ 200 → valid rate position ≡ true
+unfolding valid
+fits-valid rate position h g f = rw (le-leb 1 rate g, le-leb rate 200 f, le-leb position rate h)
 
-  pub absorb-done : (piece : List ℕ) → valid rate (s .position) ≡ true → t ≡ absorbBytes P rate s piece → Done (absorbCall P rate s piece)
+-- ---- done
+
+module _ (P : List ℕ → List ℕ) (rate : ℕ) (s : Sponge) (e : valid rate (s .position) ≡ true) where
+  pub absorb-done : (piece : List ℕ) → absorbCall P rate s piece ≡ record { status = done; state = absorbBytes P rate s piece }
   unfolding absorbCall
-  absorb-done piece e w = rw (e, w)
+  absorb-done piece = rw e
 
-  pub pad-done : (d : ℕ) → valid rate (s .position) ≡ true → t ≡ pad P rate s d → Done (padCall P rate s d)
+  pub pad-done : (d : ℕ) → padCall P rate s d ≡ record { status = done; state = pad P rate s d }
   unfolding padCall
-  pad-done d e w = rw (e, w)
+  pad-done d = rw e
 
-  pub squeeze-done : (k : ℕ) → valid rate (s .position) ≡ true → t ≡ afterBytes P rate k s → Done (squeezeCall P rate s k)
+  pub squeeze-done : (k : ℕ) → squeezeCall P rate s k ≡ record { status = done; state = afterBytes P rate k s }
   unfolding squeezeCall
-  squeeze-done k e w = rw (e, w)
+  squeeze-done k = rw e
 
-pub output-done : (P : List ℕ → List ℕ) (rate : ℕ) (s : Sponge) (out : List ℕ) → valid rate (s .position) ≡ true
-    → squeezeBytes P rate (length out) s ≡ squeezeOutput P rate s out
-unfolding squeezeOutput
-output-done P rate s out e = rw e
+  pub output-done : (out : List ℕ) → squeezeOutput P rate s out ≡ squeezeBytes P rate (length out) s
+  unfolding squeezeOutput
+  output-done out = rw e
+
+-- ---- refused
 
 module _ (P : List ℕ → List ℕ) (rate : ℕ) (s : Sponge) (e : valid rate (s .position) ≡ false) where
-  abbrev Refused : Outcome → Type 0
-  Refused o = _≡_ {A = Outcome} (record { status = unreachable; state = s }) o
-
-  pub absorb-refused : (piece : List ℕ) → Refused (absorbCall P rate s piece)
+  pub absorb-refused : (piece : List ℕ) → absorbCall P rate s piece ≡ record { status = unreachable; state = s }
   unfolding absorbCall
   absorb-refused piece = rw e
 
-  pub pad-refused : (d : ℕ) → Refused (padCall P rate s d)
+  pub pad-refused : (d : ℕ) → padCall P rate s d ≡ record { status = unreachable; state = s }
   unfolding padCall
   pad-refused d = rw e
 
-  pub squeeze-refused : (k : ℕ) → Refused (squeezeCall P rate s k)
+  pub squeeze-refused : (k : ℕ) → squeezeCall P rate s k ≡ record { status = unreachable; state = s }
   unfolding squeezeCall
   squeeze-refused k = rw e
 
-  pub output-refused : (out : List ℕ) → out ≡ squeezeOutput P rate s out
+  pub output-refused : (out : List ℕ) → squeezeOutput P rate s out ≡ out
   unfolding squeezeOutput
   output-refused out = rw e
+
+-- a fresh state is 25 zeros
+pub zero-lanes : zeroLanes ≡ replicate 25 0
+unfolding zeroLanes
+zero-lanes = refl

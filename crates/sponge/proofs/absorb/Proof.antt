@@ -1,9 +1,9 @@
-use mathlib.Core.Path.{_≡_, sym, _∙_}
+use mathlib.Core.Path.{_≡_, ap, sym, _∙_}
 use mathlib.Core.Bool.{true}
 use borrow.Author.Needs.{needs}
 use borrow.Author.Tests.{not-true, not-false}
 use Rattle.keccak.specs.Permutation.{permuted}
-use Rattle.sponge.specs.Model.{valid}
+use Rattle.sponge.specs.Model.{Sponge, valid}
 use Rattle.sponge.proofs.Valid.{valid-fits, absorb-refused, absorb-done}
 use Rattle.sponge.proofs.absorb.Statement.{statement}
 use Rattle.sponge.proofs.absorb.Tie as tie
@@ -22,7 +22,7 @@ is-valid-requires c κs = search needs
 returns : tie.Need-returns
 returns c =
     let a = c .before .before .before .args in
-    absorb-refused permuted (a .rate) (record { value = a .lanes .now; position = a .position }) (sym (c .before .is-valid .ensures) ∙ not-true _ (c .if1 .taken)) (a .piece .now)
+    sym (absorb-refused permuted (a .rate) (record { value = a .lanes .now; position = a .position }) (sym (c .before .is-valid .ensures) ∙ not-true _ (c .if1 .taken)) (a .piece .now))
 
 absorb-blocks-requires : tie.Need-absorb-blocks-requires
 absorb-blocks-requires c κs = valid-fits _ _ (was (c .before))
@@ -30,7 +30,8 @@ absorb-blocks-requires c κs = valid-fits _ _ (was (c .before))
 returns-2 : tie.Need-returns-2
 returns-2 c =
     let a = c .before .before .before .before .before .args in
-    absorb-done permuted (a .rate) (record { value = a .lanes .now; position = a .position }) (record { value = c .absorb-blocks .last .0; position = c .absorb-blocks .result }) (a .piece .now) (was (c .before .before)) (c .absorb-blocks .ensures)
+    ap (λ (t : Sponge). record { status = 0; state = t }) (c .absorb-blocks .ensures)
+    ∙ sym (absorb-done permuted (a .rate) (record { value = a .lanes .now; position = a .position }) (was (c .before .before)) (a .piece .now))
 
 pub absorb-spec : {M : Type 1} → statement M
 absorb-spec = tie.close (tie.spec is-valid-requires returns absorb-blocks-requires returns-2)

@@ -1,9 +1,9 @@
-use mathlib.Core.Path.{_≡_, sym, _∙_}
+use mathlib.Core.Path.{_≡_, ap, sym, _∙_}
 use mathlib.Core.Bool.{true}
 use borrow.Author.Needs.{needs}
 use borrow.Author.Tests.{not-true, not-false}
 use Rattle.keccak.specs.Permutation.{permuted}
-use Rattle.sponge.specs.Model.{valid}
+use Rattle.sponge.specs.Model.{Sponge, valid}
 use Rattle.sponge.proofs.Valid.{valid-fits, pad-refused, pad-done}
 use Rattle.sponge.proofs.pad.Statement.{statement}
 use Rattle.sponge.proofs.pad.Tie as tie
@@ -22,7 +22,7 @@ is-valid-requires c κs = search needs
 returns : tie.Need-returns
 returns c =
     let a = c .before .before .args in
-    pad-refused permuted (a .rate) (record { value = a .lanes .now; position = a .position }) (sym (c .before .is-valid .ensures) ∙ not-true _ (c .if1 .taken)) (a .last)
+    sym (pad-refused permuted (a .rate) (record { value = a .lanes .now; position = a .position }) (sym (c .before .is-valid .ensures) ∙ not-true _ (c .if1 .taken)) (a .last))
 
 pad-block-requires : tie.Need-pad-block-requires
 pad-block-requires c κs = valid-fits _ _ (was (c .before))
@@ -30,7 +30,8 @@ pad-block-requires c κs = valid-fits _ _ (was (c .before))
 returns-2 : tie.Need-returns-2
 returns-2 c =
     let a = c .before .before .before .before .args in
-    pad-done permuted (a .rate) (record { value = a .lanes .now; position = a .position }) (record { value = c .pad-block .last .0; position = 0 }) (a .last) (was (c .before .before)) (c .pad-block .ensures)
+    ap (λ (t : Sponge). record { status = 0; state = t }) (c .pad-block .ensures)
+    ∙ sym (pad-done permuted (a .rate) (record { value = a .lanes .now; position = a .position }) (was (c .before .before)) (a .last))
 
 pub pad-spec : {M : Type 1} → statement M
 pad-spec = tie.close (tie.spec is-valid-requires returns pad-block-requires returns-2)

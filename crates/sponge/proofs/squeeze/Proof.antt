@@ -1,4 +1,4 @@
-use mathlib.Core.Path.{_≡_, sym, _∙_}
+use mathlib.Core.Path.{_≡_, ap, sym, _∙_}
 use mathlib.Core.Bool.{true}
 use lib.ListN.{length}
 use borrow.Author.Needs.{needs}
@@ -25,7 +25,7 @@ returns c =
     let a = c .before .before .before .args in
     let s : Sponge = record { value = a .lanes .now; position = a .position } in
     let e = sym (c .before .is-valid .ensures) ∙ not-true _ (c .if1 .taken) in
-    (squeeze-refused permuted (a .rate) s e (length (a .out .now)), output-refused permuted (a .rate) s e (a .out .now))
+    (sym (squeeze-refused permuted (a .rate) s e (length (a .out .now))), sym (output-refused permuted (a .rate) s e (a .out .now)))
 
 squeeze-blocks-requires : tie.Need-squeeze-blocks-requires
 squeeze-blocks-requires c κs = valid-fits _ _ (was (c .before .before))
@@ -39,8 +39,8 @@ returns-2 c =
     let s : Sponge = record { value = a .lanes .now; position = a .position } in
     let r = c .before .before .squeeze-blocks in
     let e = was (c .before .before .before .before .before) in (
-      squeeze-done permuted (a .rate) s (record { value = r .last .0; position = r .result }) (length (a .out .now)) e (r .ensures .1),
-      r .ensures .0 ∙ output-done permuted (a .rate) s (a .out .now) e,
+      ap (λ (t : Sponge). record { status = 0; state = t }) (r .ensures .1) ∙ sym (squeeze-done permuted (a .rate) s e (length (a .out .now))),
+      r .ensures .0 ∙ sym (output-done permuted (a .rate) s e (a .out .now)),
     )
 
 pub squeeze-spec : {M : Type 1} → statement M
