@@ -13,7 +13,7 @@ use borrow.Author.Tests.{eq-eqb, le-leb}
 use Rattle.sponge.specs.Transcript.{Call, Call.absorb, Call.squeeze, Rules, Reply, reply, statusOf}
 use Rattle.sponge.specs.Runs.{Run, Machine, worked, bytesOut, runStatus, perform, runOf}
 use Rattle.sponge.specs.Streaming.{told, ran}
-use Rattle.sponge.proofs.Streaming.{Laws, streaming}
+use Rattle.sponge.proofs.Streaming.{nothing, Laws, streaming}
 
 -- ---- of every machine, whatever the run
 
@@ -39,7 +39,7 @@ module _ {S A : Type 0} (U : Rules A) (M : Machine S A) where
       by (suc v) e = absurd (omega arith)
 
 -- what a machine owes beside `Laws`: a run that 5 does not refuse is one after each call with status 0
-pub Stays : {S A : Type 0} → Rules A → Machine S A → Type 0
+abbrev pub Stays : {S A : Type 0} → Rules A → Machine S A → Type 0
 Stays {S} {A} U M = (r : Run S) (c : Call A) → M .reachable r ≡ true → statusOf U (r .phase) (r .absorbed) (r .squeezed) c ≡ 0 → M .reachable (worked U M r c) ≡ true
 
 -- ---- of every run that 5 does not refuse, reached or not
@@ -47,7 +47,7 @@ Stays {S} {A} U M = (r : Run S) (c : Call A) → M .reachable r ≡ true → sta
 module _ {S A : Type 0} (U : Rules A) (M : Machine S A) (L : Laws U M) (stays : Stays U M) where
   pub absorb-absorb : (r : Run S) (a b : List ℕ) → M .reachable r ≡ true → r .phase ≡ 0 → r .absorbed + length (a ++ b) ≤ U .inputLimit
       → perform U M (perform U M r (absorb a) .left) (absorb b) ≡ perform U M r (absorb (a ++ b))
-  unfolding perform Stays
+  unfolding perform
   absorb-absorb r a b h o l =
       let l′ : r .absorbed + (length a + length b) ≤ U .inputLimit = rw length-append at l in
       let open0 : eqb (r .phase) 0 ≡ true = eq-eqb _ _ o in
@@ -73,7 +73,7 @@ module _ {S A : Type 0} (U : Rules A) (M : Machine S A) (L : Laws U M) (stays : 
         bytes = perform U M r (squeeze m) .bytes ++ perform U M (perform U M r (squeeze m) .left) (squeeze n) .bytes;
         left = perform U M (perform U M r (squeeze m) .left) (squeeze n) .left;
       } ≡ perform U M r (squeeze (m + n))
-  unfolding perform Stays
+  unfolding perform
   squeeze-squeeze r m n h o l =
       let open1 : eqb (r .phase) 1 ≡ true = eq-eqb _ _ o in
       let first : leb (r .squeezed + m) (U .outputLimit) ≡ true = le-leb (r .squeezed + m) (U .outputLimit) (omega arith) in
@@ -82,6 +82,15 @@ module _ {S A : Type 0} (U : Rules A) (M : Machine S A) (L : Laws U M) (stays : 
       let after-m : perform U M r (squeeze m) ≡ record { status = 0; bytes = M .squeeze m (r .state); left = worked U M r (squeeze m) } = rw (h, open1, first) in
       let h′ : M .reachable (worked U M r (squeeze m)) ≡ true = stays r (squeeze m) h (rw (open1, first)) in
       rw after-m (rw (h′, h, open1, second, whole) (rw (L .after-add m n (r .state), L .squeeze-add m n (r .state), ← add-assoc)))
+
+  pub squeeze-nothing : (r : Run S) → M .reachable r ≡ true → r .phase ≡ 1 → r .squeezed ≤ U .outputLimit
+      → perform U M r (squeeze 0) ≡ record { status = 0; bytes = []; left = r }
+  unfolding perform
+  squeeze-nothing r h o l =
+      let open1 : eqb (r .phase) 1 ≡ true = eq-eqb _ _ o in
+      let fits : leb (r .squeezed) (U .outputLimit) ≡ true = le-leb (r .squeezed) (U .outputLimit) l in
+      let none : M .squeeze 0 (r .state) ≡ [] = sym (nothing _ (L .squeeze-length 0 (r .state))) in
+      rw (h, open1, add-zero, fits, L .after-zero (r .state), none)
 
 -- ---- of reached runs
 

@@ -4,6 +4,7 @@ pub mod Xor
 pub mod Waiting
 pub mod Published
 pub mod Position
+pub mod FirstStatus
 pub mod Valid
 pub mod Streaming
 pub mod Joining

@@ -17,7 +17,7 @@ pub cond-zero : (t : Bool) (n : ℕ) → cond t 0 (suc n) ≡ 0 → t ≡ true
 cond-zero true n e = refl
 cond-zero false n e = absurd (omega arith)
 
-nothing : (l : List ℕ) → length l ≡ 0 → [] ≡ l
+pub nothing : (l : List ℕ) → length l ≡ 0 → [] ≡ l
 nothing [] e = refl
 nothing (x ∷ l) e = absurd (omega arith)
 

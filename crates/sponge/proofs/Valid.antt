@@ -64,3 +64,8 @@ module _ (P : List ℕ → List ℕ) (rate : ℕ) (s : Sponge) (e : valid rate (
 pub zero-lanes : zeroLanes ≡ replicate 25 0
 unfolding zeroLanes
 zero-lanes = refl
+
+-- a padded block is a new one
+pub pad-position : (P : List ℕ → List ℕ) (rate : ℕ) (s : Sponge) (d : ℕ) → pad P rate s d .position ≡ 0
+unfolding pad
+pad-position P rate s d = refl

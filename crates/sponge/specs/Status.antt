@@ -1,6 +1,6 @@
 -- The numbers of document 01's table that calls on runs and in one go answer. Their constants in code stand in src/status.rt.
 -- Assumes nothing.
-use Prim.Native.Nat.{ℕ}
+use Prim.Native.Nat.{ℕ, zero, suc}
 
 abbrev pub done : ℕ
 done = 0
@@ -28,3 +28,8 @@ outputTooLong = 6
 -- a call in one go asks for 0 bytes
 abbrev pub badLength : ℕ
 badLength = 7
+
+-- the first status of two that is not 0
+abbrev pub firstOf : ℕ → ℕ → ℕ
+firstOf zero n = n
+firstOf (suc m) n = suc m
