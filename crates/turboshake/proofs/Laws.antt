@@ -1,0 +1,152 @@
+-- TurboSHAKE's machine meets the laws of the law of joining, for every rate above 0.
+-- Assumes nothing.
+use mathlib.Core.Path.{_≡_, refl, sym, ap, _∙_, subst}
+use mathlib.Core.List.{List, [], _∷_}
+use mathlib.Core.Bool.{Bool, true, false, cond, _&&_, and-eq-true-iff}
+use Prim.Native.Nat.{ℕ, zero, suc, _+_, _≤_, _<_, zero-le}
+use native.Mathlib.Nat.{zero-add}
+use native.Mathlib.Omega.{arith}
+use lib.ListN.{length}
+use lib.Dec.{T, eqb, leb}
+use borrow.Author.Tests.{eq-eqb, ne-eqb, eqb-true, le-leb, leb-true}
+use Rattle.keccak.specs.Permutation.{permuted}
+use Rattle.sponge.specs.Published.{xorByte}
+use Rattle.sponge.specs.Waiting.{At, positionAfter}
+use Rattle.sponge.specs.Model.{Sponge, fresh, absorbBytes, pad, squeezeBytes, afterBytes}
+use Rattle.sponge.specs.Transcript.{Call, Call.absorb, Call.finalize, Call.squeeze, Phase, Phase.absorbing, Phase.squeezing, phaseNumber, Transcript, statusOf}
+use Rattle.sponge.specs.Runs.{Run, Machine, worked, runOf}
+use Rattle.sponge.proofs.Waiting.{steps-append}
+use Rattle.sponge.proofs.Position.{steps-position, after-position}
+use Rattle.sponge.proofs.Published.{after-add, squeeze-add, length-squeeze, squeeze-sponge}
+use Rattle.sponge.proofs.Valid.{pad-position}
+use Rattle.sponge.proofs.Streaming.{cond-zero, Fits, Laws}
+use Rattle.sponge.proofs.Joining.{Stays}
+use Rattle.sponge.proofs.Reachable.{Shape}
+use Rattle.turboshake.specs.Published.{turboshake}
+use Rattle.turboshake.specs.Model.{limit, rules, reachable, machine}
+
+-- the position in the block, and what it has to be
+abbrev pub positions : Sponge → List ℕ
+positions s = s .position ∷ []
+
+abbrev pub due : ℕ → ℕ → ℕ → ℕ → List ℕ
+due rate phase absorbed squeezed = positionAfter rate (cond (eqb phase 0) absorbed squeezed) ∷ []
+
+both : (a b : Bool) → a && b ≡ true → (a ≡ true) × (b ≡ true)
+both a b e = and-eq-true-iff a b .0 e
+
+pub first-is : (a b : ℕ) → a ∷ [] ≡ b ∷ [] → a ≡ b
+first-is a b e = cc e
+
+module _ (rate : ℕ) where
+  -- ---- the test of status 5 says what Shape says
+
+  shape-by : (s : Sponge) (h n k : ℕ) → reachable rate (s .position) h n k ≡ true
+      → Shape (rules rate) positions (due rate) (record { state = s; phase = h; absorbed = n; squeezed = k })
+  unfolding reachable rules
+  shape-by s zero n k e =
+      let a = both (leb n limit) _ e in
+      let b = both (eqb k 0) (eqb (s .position) (positionAfter rate n)) (a .1) in
+      record {
+        phase-fits = omega arith;
+        absorbed-fits = leb-true _ _ (a .0);
+        squeezed-fits = omega (arith, eqb-true k 0 (b .0));
+        positions-due = ap (λ (p : ℕ). p ∷ []) (eqb-true _ _ (b .1));
+      }
+  shape-by s (suc zero) n k e =
+      let a = both (leb n limit) _ e in
+      let b = both (leb k limit) (eqb (s .position) (positionAfter rate k)) (a .1) in
+      record {
+        phase-fits = omega arith;
+        absorbed-fits = leb-true _ _ (a .0);
+        squeezed-fits = leb-true _ _ (b .0);
+        positions-due = ap (λ (p : ℕ). p ∷ []) (eqb-true _ _ (b .1));
+      }
+  shape-by s (suc (suc h)) n k e =
+      let a = both (leb n limit) _ (rw (ne-eqb (suc (suc h)) 0 (λ e. omega arith), ne-eqb (suc (suc h)) 1 (λ e. omega arith)) at e) in
+      absurd (subst T (sym (a .1)) tt)
+
+  pub shape : (r : Run Sponge) → machine rate .reachable r ≡ true → Shape (rules rate) positions (due rate) r
+  unfolding machine
+  shape r e = shape-by (r .state) (r .phase) (r .absorbed) (r .squeezed) e
+
+  shaped-by : (s : Sponge) (h n k : ℕ) → Shape (rules rate) positions (due rate) (record { state = s; phase = h; absorbed = n; squeezed = k })
+      → reachable rate (s .position) h n k ≡ true
+  unfolding reachable rules
+  shaped-by s zero n k t =
+      let z : k ≡ 0 = omega (arith, t .squeezed-fits) in
+      rw (le-leb n limit (t .absorbed-fits), eq-eqb k 0 z, eq-eqb (s .position) (positionAfter rate n) (first-is _ _ (t .positions-due)))
+  shaped-by s (suc zero) n k t = rw (le-leb n limit (t .absorbed-fits), le-leb k limit (t .squeezed-fits), eq-eqb (s .position) (positionAfter rate k) (first-is _ _ (t .positions-due)))
+  shaped-by s (suc (suc h)) n k t = absurd (let l = t .phase-fits in omega arith)
+
+  pub shaped : (r : Run Sponge) → Shape (rules rate) positions (due rate) r → machine rate .reachable r ≡ true
+  unfolding machine
+  shaped r t = shaped-by (r .state) (r .phase) (r .absorbed) (r .squeezed) t
+
+  -- ---- the machine's laws
+
+  module _ (pos : 0 < rate) where
+    reaches : (f : List ℕ) (h : Phase ℕ) (n : ℕ) → Fits (rules rate) (record { absorbed = f; phase = h; squeezed = n })
+        → Shape (rules rate) positions (due rate) (runOf (rules rate) (machine rate) (record { absorbed = f; phase = h; squeezed = n }))
+    unfolding rules machine
+    reaches f absorbing n t = record {
+      phase-fits = zero-le;
+      absorbed-fits = t .input-fits;
+      squeezed-fits = t .output-fits;
+      positions-due = ap (λ (p : ℕ). p ∷ []) (steps-position permuted xorByte rate pos 0 fresh f refl ∙ ap (positionAfter rate) (zero-add (length f)));
+    }
+    reaches f (squeezing d) n t = record {
+      phase-fits = omega arith;
+      absorbed-fits = t .input-fits;
+      squeezed-fits = t .output-fits;
+      positions-due =
+          ap (λ (p : ℕ). p ∷ [])
+          (after-position permuted rate pos 0 (pad permuted rate (absorbBytes permuted rate fresh f) d) n (pad-position permuted rate (absorbBytes permuted rate fresh f) d) ∙ ap (positionAfter rate) (zero-add n));
+    }
+
+    pub laws : Laws (rules rate) (machine rate)
+    unfolding rules machine turboshake
+    laws = record {
+      absorb-nothing = λ n s. refl;
+      absorb-append = λ n s p q. steps-append permuted xorByte rate s p q;
+      after-zero = λ s. refl;
+      after-add = after-add permuted rate pos;
+      squeeze-add = squeeze-add permuted rate pos;
+      squeeze-length = length-squeeze permuted rate pos;
+      squeeze-output = squeeze-sponge permuted rate pos;
+      run-reachable = λ t h. shaped (runOf (rules rate) (machine rate) t) (reaches (t .absorbed) (t .phase) (t .squeezed) h);
+    }
+
+    -- ---- a run that 5 does not refuse stays one
+
+    stays-by : (s : Sponge) (h n k : ℕ) (c : Call ℕ) → Shape (rules rate) positions (due rate) (record { state = s; phase = h; absorbed = n; squeezed = k })
+        → statusOf (rules rate) h n k c ≡ 0
+        → Shape (rules rate) positions (due rate) (worked (rules rate) (machine rate) (record { state = s; phase = h; absorbed = n; squeezed = k }) c)
+    unfolding rules machine
+    stays-by s zero n k (absorb p) t e = record {
+      phase-fits = zero-le;
+      absorbed-fits = leb-true _ _ (cond-zero _ _ e);
+      squeezed-fits = t .squeezed-fits;
+      positions-due = ap (λ (p : ℕ). p ∷ []) (steps-position permuted xorByte rate pos n s p (first-is _ _ (t .positions-due)));
+    }
+    stays-by s zero n k (finalize d) t e =
+        let z : k ≡ 0 = omega (arith, t .squeezed-fits) in
+        record {
+          phase-fits = omega arith;
+          absorbed-fits = t .absorbed-fits;
+          squeezed-fits = rw z zero-le;
+          positions-due = rw z (ap (λ (p : ℕ). p ∷ []) (pad-position permuted rate s d));
+        }
+    stays-by s zero n k (squeeze j) t e = absurd (omega arith)
+    stays-by s (suc zero) n k (absorb p) t e = absurd (omega arith)
+    stays-by s (suc zero) n k (finalize d) t e = absurd (omega arith)
+    stays-by s (suc zero) n k (squeeze j) t e = record {
+      phase-fits = t .phase-fits;
+      absorbed-fits = t .absorbed-fits;
+      squeezed-fits = leb-true _ _ (cond-zero _ _ e);
+      positions-due = ap (λ (p : ℕ). p ∷ []) (after-position permuted rate pos k s j (first-is _ _ (t .positions-due)));
+    }
+    stays-by s (suc (suc h)) n k c t e = absurd (let l = t .phase-fits in omega arith)
+
+    pub stays : Stays (rules rate) (machine rate)
+    stays r c h e = shaped (worked (rules rate) (machine rate) r c) (stays-by (r .state) (r .phase) (r .absorbed) (r .squeezed) c (shape r h) e)

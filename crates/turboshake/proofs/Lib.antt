@@ -1,0 +1,4 @@
+pub mod Laws
+pub mod Streaming
+mod Cases
+mod OneGo

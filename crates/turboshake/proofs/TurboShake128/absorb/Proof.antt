@@ -1,0 +1,17 @@
+use mathlib.Core.Path.{ap}
+use Rattle.turboshake.specs.declared.Answer.{Answer}
+use borrow.Author.Needs.{needs}
+use Rattle.turboshake.proofs.TurboShake128.absorb.Statement.{statement}
+use Rattle.turboshake.proofs.TurboShake128.absorb.Tie as tie
+use Rattle.turboshake.proofs.TurboShake128.absorb.Reads as reads
+use Rattle.turboshake.proofs.TurboShake128.absorb.Lts as lts
+use Rattle.turboshake.proofs.calls.absorb.Reads as absorb-reads
+
+absorb-requires : tie.Need-absorb-requires
+absorb-requires c κs = search needs
+
+returns : tie.Need-returns
+returns c = ap (λ (a : Answer). record { status = a .status; hasher = record { run = a .run } }) (c .before .absorb .ensures)
+
+pub absorb-spec : {M : Type 1} → statement M
+absorb-spec = tie.close (tie.spec absorb-requires returns)

@@ -1,0 +1,87 @@
+use mathlib.Core.Path.{_≡_, sym, _∙_}
+use mathlib.Core.Bool.{true}
+use Prim.Native.Nat.{ℕ, _+_, _≤_, _<_}
+use native.Mathlib.Omega.{arith}
+use lib.ListN.{length}
+use borrow.Author.Needs.{needs}
+use borrow.Author.Tests.{not-true, not-false}
+use Rattle.sponge.specs.Model.{valid}
+use Rattle.sponge.specs.Transcript.{Call.absorb}
+use Rattle.sponge.proofs.Valid.{fits-valid}
+use Rattle.turboshake.specs.Model.{limit, reachable}
+use Rattle.turboshake.proofs.Cases.{fits, status-5, absorb-3, absorb-2, absorb-0, answer-refused, absorb-answer}
+use Rattle.turboshake.proofs.calls.absorb.Statement.{statement}
+use Rattle.turboshake.proofs.calls.absorb.Tie as tie
+use Rattle.turboshake.proofs.calls.absorb.Reads as reads
+use Rattle.turboshake.proofs.calls.absorb.Lts as lts
+use Rattle.sponge.proofs.absorb.Reads as absorb-reads
+use Rattle.turboshake.proofs.calls.is_reachable.Reads as is-reachable-reads
+use Rattle.turboshake.proofs.calls.refused.Reads as refused-reads
+
+-- past the first test the run is one that 5 does not refuse
+was : (c : tie.Else1) → reachable (c .before .before .before .args .rate) (c .before .before .before .args .run .position) (c .before .before .before .args .run .phase) (c .before .before .before .args .run .absorbed) (c .before .before .before .args .run .squeezed) ≡ true
+was c = sym (c .before .is-reachable .ensures) ∙ not-false _ (c .if1 .left)
+
+fit : (c : tie.Else1) → (c .before .before .before .args .run .position ≤ c .before .before .before .args .rate) × (c .before .before .before .args .run .absorbed ≤ limit) × (c .before .before .before .args .run .squeezed ≤ limit)
+fit c = fits (c .before .before .before .args .rate) (c .before .before .before .args .run) (c .before .before .before .pre .0) (was c)
+
+ok : (c : tie.Else1) → valid (c .before .before .before .args .rate) (c .before .before .before .args .run .position) ≡ true
+ok c = fits-valid _ _ (fit c .0) (c .before .before .before .pre .0) (c .before .before .before .pre .1)
+
+is-reachable-requires : tie.Need-is-reachable-requires
+is-reachable-requires c κs = search needs
+
+refused-requires : tie.Need-refused-requires
+refused-requires c κs = search needs
+
+refused-requires-2 : tie.Need-refused-requires-2
+refused-requires-2 c κs = search needs
+
+refused-requires-3 : tie.Need-refused-requires-3
+refused-requires-3 c κs = search needs
+
+returns : tie.Need-returns
+returns c =
+    let a = c .before .before .before .before .args in
+    let e = status-5 (a .rate) (a .run) (absorb (a .piece .now)) (sym (c .before .before .is-reachable .ensures) ∙ not-true _ (c .before .if1 .taken)) in
+    c .refused .ensures ∙ answer-refused (a .rate) (a .run) (absorb (a .piece .now)) 4 e
+
+returns-2 : tie.Need-returns-2
+returns-2 c =
+    let a = c .before .before .before .before .before .before .args in
+    let e = absorb-3 (a .rate) (a .run) (was (c .before .before .before)) (a .piece .now) (c .before .if2 .taken) in
+    c .refused2 .ensures ∙ answer-refused (a .rate) (a .run) (absorb (a .piece .now)) 2 e
+
+add-total : tie.Need-add-total
+add-total c = let h = fit (c .before .before .before) in omega arith
+
+returns-3 : tie.Need-returns-3
+returns-3 c =
+    let a = c .before .before .before .before .before .before .before .before .args in
+    let e = absorb-2 (a .rate) (a .run) (was (c .before .before .before .before .before)) (a .piece .now) (c .before .before .before .if2 .left) (c .before .if3 .taken) in
+    c .refused3 .ensures ∙ answer-refused (a .rate) (a .run) (absorb (a .piece .now)) 1 e
+
+absorb-requires : tie.Need-absorb-requires
+absorb-requires c κs = search needs
+
+returns-4 : tie.Need-returns-4
+returns-4 c =
+    let a = c .before .before .before .before .before .before .before .before .before .args in
+    let past = c .before .before .before .before .before .before in
+    let e = absorb-0 (a .rate) (a .run) (was past) (a .piece .now) (c .before .before .before .before .if2 .left) (c .before .before .if3 .left) in
+    absorb-answer (a .rate) (a .run) (ok past) (a .piece .now) (record { status = c .absorb .result .status; state = record { value = c .absorb .last .0; position = c .absorb .result .position } }) (c .absorb .ensures) e
+
+pub absorb-spec : {M : Type 1} → statement M
+absorb-spec =
+    tie.close
+    (tie.spec
+    is-reachable-requires
+    refused-requires
+    returns
+    refused-requires-2
+    returns-2
+    add-total
+    refused-requires-3
+    returns-3
+    absorb-requires
+    returns-4)

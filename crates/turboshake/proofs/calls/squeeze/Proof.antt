@@ -1,0 +1,94 @@
+use mathlib.Core.Path.{_≡_, sym, _∙_}
+use mathlib.Core.Bool.{true}
+use Prim.Native.Nat.{ℕ, _+_, _≤_, _<_}
+use native.Mathlib.Omega.{arith}
+use lib.ListN.{length}
+use borrow.Author.Needs.{needs}
+use borrow.Author.Tests.{not-true, not-false}
+use Rattle.sponge.specs.Model.{valid}
+use Rattle.sponge.specs.Transcript.{Call.squeeze}
+use Rattle.sponge.proofs.Valid.{fits-valid}
+use Rattle.turboshake.specs.Model.{limit, reachable}
+use Rattle.turboshake.proofs.Cases.{fits, status-5, squeeze-3, squeeze-6, squeeze-0, answer-refused, output-refused, squeeze-answer, squeeze-written}
+use Rattle.turboshake.proofs.calls.squeeze.Statement.{statement}
+use Rattle.turboshake.proofs.calls.squeeze.Tie as tie
+use Rattle.turboshake.proofs.calls.squeeze.Reads as reads
+use Rattle.turboshake.proofs.calls.squeeze.Lts as lts
+use Rattle.sponge.proofs.squeeze.Reads as squeeze-reads
+use Rattle.turboshake.proofs.calls.is_reachable.Reads as is-reachable-reads
+use Rattle.turboshake.proofs.calls.refused.Reads as refused-reads
+
+-- past the first test the run is one that 5 does not refuse
+was : (c : tie.Else1) → reachable (c .before .before .before .args .rate) (c .before .before .before .args .run .position) (c .before .before .before .args .run .phase) (c .before .before .before .args .run .absorbed) (c .before .before .before .args .run .squeezed) ≡ true
+was c = sym (c .before .is-reachable .ensures) ∙ not-false _ (c .if1 .left)
+
+fit : (c : tie.Else1) → (c .before .before .before .args .run .position ≤ c .before .before .before .args .rate) × (c .before .before .before .args .run .absorbed ≤ limit) × (c .before .before .before .args .run .squeezed ≤ limit)
+fit c = fits (c .before .before .before .args .rate) (c .before .before .before .args .run) (c .before .before .before .pre .0) (was c)
+
+ok : (c : tie.Else1) → valid (c .before .before .before .args .rate) (c .before .before .before .args .run .position) ≡ true
+ok c = fits-valid _ _ (fit c .0) (c .before .before .before .pre .0) (c .before .before .before .pre .1)
+
+is-reachable-requires : tie.Need-is-reachable-requires
+is-reachable-requires c κs = search needs
+
+refused-requires : tie.Need-refused-requires
+refused-requires c κs = search needs
+
+refused-requires-2 : tie.Need-refused-requires-2
+refused-requires-2 c κs = search needs
+
+refused-requires-3 : tie.Need-refused-requires-3
+refused-requires-3 c κs = search needs
+
+returns : tie.Need-returns
+returns c =
+    let a = c .before .before .before .before .args in
+    let e = status-5 (a .rate) (a .run) (squeeze (length (a .out .now))) (sym (c .before .before .is-reachable .ensures) ∙ not-true _ (c .before .if1 .taken)) in
+    (c .refused .ensures ∙ answer-refused (a .rate) (a .run) (squeeze (length (a .out .now))) 4 e, output-refused (a .rate) (a .run) (a .out .now) 4 e)
+
+returns-2 : tie.Need-returns-2
+returns-2 c =
+    let a = c .before .before .before .before .before .before .args in
+    let e = squeeze-3 (a .rate) (a .run) (was (c .before .before .before)) (length (a .out .now)) (c .before .if2 .taken) in
+    (c .refused2 .ensures ∙ answer-refused (a .rate) (a .run) (squeeze (length (a .out .now))) 2 e, output-refused (a .rate) (a .run) (a .out .now) 2 e)
+
+add-total : tie.Need-add-total
+add-total c = let h = fit (c .before .before .before) in omega arith
+
+returns-3 : tie.Need-returns-3
+returns-3 c =
+    let a = c .before .before .before .before .before .before .before .before .args in
+    let e = squeeze-6 (a .rate) (a .run) (was (c .before .before .before .before .before)) (length (a .out .now)) (c .before .before .before .if2 .left) (c .before .if3 .taken) in
+    (c .refused3 .ensures ∙ answer-refused (a .rate) (a .run) (squeeze (length (a .out .now))) 5 e, output-refused (a .rate) (a .run) (a .out .now) 5 e)
+
+squeeze-requires : tie.Need-squeeze-requires
+squeeze-requires c κs = search needs
+
+same-length : tie.Need-same-length
+same-length c = search needs
+
+returns-4 : tie.Need-returns-4
+returns-4 c =
+    let a = c .before .before .before .before .before .before .before .before .before .before .before .before .args in
+    let past = c .before .before .before .before .before .before .before .before .before in
+    let q = c .before .before .squeeze in
+    let e = squeeze-0 (a .rate) (a .run) (was past) (length (a .out .now)) (c .before .before .before .before .before .before .before .if2 .left) (c .before .before .before .before .before .if3 .left) in (
+      squeeze-answer (a .rate) (a .run) (ok past) (length (a .out .now)) (record { status = q .result .status; state = record { value = q .last .0; position = q .result .position } }) (q .ensures .0) e,
+      q .ensures .1 ∙ squeeze-written (a .rate) (a .run) (ok past) (a .out .now) e,
+    )
+
+pub squeeze-spec : {M : Type 1} → statement M
+squeeze-spec =
+    tie.close
+    (tie.spec
+    is-reachable-requires
+    refused-requires
+    returns
+    refused-requires-2
+    returns-2
+    add-total
+    refused-requires-3
+    returns-3
+    squeeze-requires
+    same-length
+    returns-4)

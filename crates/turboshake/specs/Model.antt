@@ -1,0 +1,93 @@
+-- What each call on a run of TurboSHAKE, and each call in one go, does on every input, over the rate.
+-- Assumes nothing.
+use mathlib.Core.List.{List}
+use mathlib.Core.Bool.{Bool, true, false, cond, _&&_}
+use Prim.Native.Nat.{ℕ}
+use lib.ListN.{length}
+use lib.Dec.{eqb, leb}
+use Rattle.keccak.specs.Permutation.{permuted}
+use Rattle.sponge.specs.Waiting.{At, positionAfter}
+use Rattle.sponge.specs.Model.{Sponge, fresh, absorbBytes, pad, squeezeBytes, afterBytes}
+use Rattle.sponge.specs.Status.{done, badDomain, inputTooLong, outputTooLong, badLength, firstOf}
+use Rattle.sponge.specs.Transcript.{Call, Call.absorb, Call.finalize, Call.squeeze, Rules, Reply, lent}
+use Rattle.sponge.specs.Runs as runs
+use Rattle.sponge.specs.Runs.{Machine, freshRun, perform}
+use Rattle.turboshake.specs.Published.{turboshake}
+use Rattle.turboshake.specs.declared.Run.{Run}
+use Rattle.turboshake.specs.declared.Answer.{Answer}
+use Rattle.turboshake.specs.declared.TurboShake128.{TurboShake128}
+use Rattle.turboshake.specs.declared.Answer128.{Answer128}
+use Rattle.turboshake.specs.declared.TurboShake256.{TurboShake256}
+use Rattle.turboshake.specs.declared.Answer256.{Answer256}
+
+-- the most bytes that are absorbed, and squeezed
+abbrev pub limit : ℕ
+limit = 4294967295
+
+-- the domain separation byte is 01 to 7F
+unfoldable pub domainStatus : ℕ → ℕ
+domainStatus d = cond (leb 1 d && leb d 0x7F) done badDomain
+
+-- the transcript's side: the published function, the refusal of D, the limits
+unfoldable pub rules : ℕ → Rules ℕ
+rules rate = record { output = turboshake rate; argument = domainStatus; inputLimit = limit; outputLimit = limit }
+
+-- what a run reached from a fresh one has: in phase 0 nothing is squeezed and the position tells the bytes absorbed, in phase 1
+-- it tells the bytes squeezed; lanes are not looked at
+unfoldable pub reachable : ℕ → ℕ → ℕ → ℕ → ℕ → Bool
+reachable rate position phase absorbed squeezed =
+    leb absorbed limit
+    && cond (eqb phase 0) (eqb squeezed 0 && eqb position (positionAfter rate absorbed))
+    (eqb phase 1 && (leb squeezed limit && eqb position (positionAfter rate squeezed)))
+
+-- the run's side
+unfoldable pub machine : ℕ → Machine Sponge ℕ
+machine rate = record {
+  fresh = fresh;
+  absorb = λ n s p. absorbBytes permuted rate s p;
+  finalize = λ n s d. pad permuted rate s d;
+  squeeze = squeezeBytes permuted rate;
+  after = afterBytes permuted rate;
+  reachable = λ r. reachable rate (r .state .position) (r .phase) (r .absorbed) (r .squeezed);
+}
+
+-- ---- the code's structs
+
+-- a run as the theorem sees it, and back
+abbrev pub seen : Run → runs.Run Sponge
+seen r = record { state = record { value = r .lanes; position = r .position }; phase = r .phase; absorbed = r .absorbed; squeezed = r .squeezed }
+
+abbrev pub held : runs.Run Sponge → Run
+held r = record { lanes = r .state .value; position = r .state .position; phase = r .phase; absorbed = r .absorbed; squeezed = r .squeezed }
+
+unfoldable pub freshOf : ℕ → Run
+freshOf rate = held (freshRun (rules rate) (machine rate))
+
+-- what a call answers: the status and the run handed back
+unfoldable pub answerOf : ℕ → Run → Call ℕ → Answer
+answerOf rate r c = record { status = perform (rules rate) (machine rate) (seen r) c .status; run = held (perform (rules rate) (machine rate) (seen r) c .left) }
+
+-- what the lent output holds after a squeeze, which held `out` before
+unfoldable pub outputOf : ℕ → Run → List ℕ → List ℕ
+outputOf rate r out =
+    lent (perform (rules rate) (machine rate) (seen r) (squeeze (length out)) .status) (perform (rules rate) (machine rate) (seen r) (squeeze (length out)) .bytes) out
+
+-- the same in the types of each strength, which differ in their names and the rate
+abbrev pub answer128 : TurboShake128 → Call ℕ → Answer128
+answer128 h c = record { status = answerOf 168 (h .run) c .status; hasher = record { run = answerOf 168 (h .run) c .run } }
+
+abbrev pub answer256 : TurboShake256 → Call ℕ → Answer256
+answer256 h c = record { status = answerOf 136 (h .run) c .status; hasher = record { run = answerOf 136 (h .run) c .run } }
+
+-- ---- in one go
+
+-- the status of a message of m bytes, the byte d, and n bytes asked
+unfoldable pub hashStatus : ℕ → ℕ → ℕ → ℕ
+hashStatus m d n =
+    firstOf (domainStatus d)
+    (firstOf (cond (leb m limit) done inputTooLong)
+    (firstOf (cond (eqb n 0) badLength done) (cond (leb n limit) done outputTooLong)))
+
+-- what the lent output holds after the call
+unfoldable pub hashOutput : ℕ → List ℕ → ℕ → List ℕ → List ℕ
+hashOutput rate m d out = lent (hashStatus (length m) d (length out)) (turboshake rate m d (length out)) out
