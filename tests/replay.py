@@ -1,0 +1,166 @@
+"""Writes lists of calls for the program `replay` and the lines that it must answer; runs it and compares.
+
+A record is one byte op, four bytes n, and n bytes of payload (none for R), numbers most significant first. The program does one call
+for each and writes one line. What the line must say is transcript.py's to decide.
+"""
+import subprocess
+import tempfile
+from collections import Counter
+from pathlib import Path
+
+import transcript
+from transcript import RATES, Run, Transcript
+
+PROGRAM = Path(__file__).resolve().parent.parent / "target/bin/replay"
+MOST = 262_144  # the length of the program's buffers
+BEFORE = b"\xa5"  # each byte of the buffer that a squeeze is given
+PHASE, ABSORBED, SQUEEZED, POSITION, LANES = 0, 1, 2, 3, 64  # the fields that S writes; lane i is 64 + i
+
+
+def record(op, payload=b"", n=None):
+    """One record. `n` is the payload's length where it is not given."""
+    return op.encode("latin-1") + (len(payload) if n is None else n).to_bytes(4, "big") + payload
+
+
+def set_record(field, value):
+    return record("S", bytes([field]) + value.to_bytes(8, "big"))
+
+
+def one_go_record(function, domain, size, message):
+    return record("T", bytes([function, domain]) + size.to_bytes(4, "big") + message)
+
+
+def play(records):
+    """The lines that the program writes for these records, and its exit status.
+
+    The records come by a pipe, so that the program must put up with reads that give less than it asked.
+    """
+    with tempfile.TemporaryFile() as output:
+        done = subprocess.run([str(PROGRAM)], input=bytes(records), stdout=output, timeout=300)
+        output.seek(0)
+        *lines, rest = output.read().decode("latin-1").split("\n")
+    return lines + ([f"{rest} (no line end)"] if rest else []), done.returncode
+
+
+def bytes_line(status, out, size):
+    """The line of a squeeze: the buffer as a done call fills it, or as it was."""
+    return f"{status} {(BEFORE * size if out is None else out).hex()}"
+
+
+def dump_line(run):
+    numbers = (run.absorbed, run.squeezed, run.position, *run.lanes)
+    return f"{run.phase:02x} " + " ".join(f"{v:016x}" for v in numbers)
+
+
+def difference(got, want):
+    """Both lines from shortly before the place where they part."""
+    same = next((i for i, (a, b) in enumerate(zip(got, want)) if a != b), min(len(got), len(want)))
+    start = max(0, same - 20)
+    return f"from character {start} on: got {got[start : start + 60]!r}, not {want[start : start + 60]!r}"
+
+
+class Calls:
+    """A list of records and, for each, what the line must be.
+
+    `book` is the transcript of the run in hand, or None once a field was overwritten; `run` has the run's fields. A line is held
+    to the book and to the run while both are there.
+    """
+
+    def __init__(self):
+        self.records = bytearray()
+        self.expected = []  # (number of the record, what it asks, the line); two of a record where book and run both say it
+        self.lines = 0
+        self.answers = Counter()  # of (op, status)
+        self.function = self.book = self.run = None
+
+    @property
+    def rate(self):
+        return RATES[self.function]
+
+    def add(self, what, data, *wanted):
+        self.records += data
+        self.expected += [(self.lines, what, line) for line in wanted]
+        self.lines += 1
+
+    def fresh(self, function):
+        self.function = function
+        self.book, self.run = Transcript(self.rate), Run(self.rate)
+        self.add(f"N {function}", record("N", bytes([function])), "fresh")
+
+    def call(self, what, data, answers, size=None):
+        """Adds a call with what the book and the run answer. After a refusal the run must be as it was, so a dump follows."""
+        if size is None:
+            wanted = [str(status) for status in answers]
+            status = answers[-1]
+        else:
+            wanted = [bytes_line(*answer, size) for answer in answers]
+            status = answers[-1][0]
+        self.add(what, data, *wanted)
+        self.answers[what[0], status] += 1
+        if status:
+            self.dump()
+
+    def asked(self, name, argument):
+        return [getattr(one, name)(argument) for one in (self.book, self.run) if one]
+
+    def absorb(self, piece):
+        self.call(f"A of {len(piece)} bytes", record("A", piece), self.asked("absorb", piece))
+
+    def finalize(self, domain):
+        self.call(f"F {domain:02x}", record("F", bytes([domain])), self.asked("finalize", domain))
+
+    def squeeze(self, size):
+        self.call(f"R of {size} bytes", record("R", n=size), self.asked("squeeze", size), size)
+
+    def one_go(self, function, message, domain, size):
+        answer = transcript.one_go(RATES[function], message, domain, size)
+        what = f"T {function} {domain:02x} of {len(message)} bytes, {size} asked"
+        self.call(what, one_go_record(function, domain, size, message), [answer], size)
+
+    def set(self, field, value):
+        """Overwrites a field of the run in hand; the book has nothing to say of it from here on."""
+        self.book = None
+        if field >= LANES:
+            self.run.lanes[field - LANES] = value
+        else:
+            setattr(self.run, ("phase", "absorbed", "squeezed", "position")[field], value)
+        self.add(f"S {field} {value:x}", set_record(field, value), "set")
+
+    def dump(self):
+        if not self.run:  # one-go calls need no run
+            return
+        wanted = dump_line(self.run)
+        said = []
+        if self.book:  # the phase and the totals are the book's; the position and the lanes only the run has
+            totals = f"{self.book.phase:02x} {len(self.book.fed):016x} {self.book.read:016x} "
+            said = [totals + wanted[len(totals) :]]
+        self.add("D", record("D"), *said, wanted)
+
+    def rebuild(self, order):
+        """A fresh run, every field of which is written as the run in hand has it, is that run: its book goes on."""
+        book, run = self.book, self.run
+        self.fresh(self.function)
+        values = [run.phase, run.absorbed, run.squeezed, run.position]
+        fields = list(enumerate(values)) + [(LANES + i, v) for i, v in enumerate(run.lanes)]
+        for field, value in order(fields):
+            self.set(field, value)
+        self.book = book
+
+    def faults(self):
+        """Runs the program, and says in a line each what is wrong, the first few."""
+        got, status = play(self.records)
+        found = [f"exit status {status}"] if status else []
+        if len(got) != self.lines:
+            found.append(f"{len(got)} lines for {self.lines} records")
+        for number, what, want in self.expected:
+            if len(found) == 3:
+                break
+            if number < len(got) and got[number] != want:
+                found.append(f"record {number + 1}, {what}, {difference(got[number], want)}; {self.before(number)}")
+        return found
+
+    def before(self, number):
+        """The records since the last fresh run, shortly."""
+        whats = dict((n, what) for n, what, _ in self.expected[: 2 * number + 2])
+        since = max((n for n in range(number) if whats[n][0] == "N"), default=0)
+        return "after " + "; ".join([whats[since], *(whats[n] for n in range(max(since + 1, number - 8), number))])
