@@ -8,20 +8,22 @@ import reference
 FOLDER = Path(__file__).parent / "vectors"
 LINE = re.compile(r"(\w+)\(M=(.+?), D=`(\w\w)`, (\d+)\)(?:, last (\d+) bytes)?: `([0-9A-F ]+)`")
 
-# what is asked of the function, and the bytes printed: the whole output, or its last ones
-Vector = namedtuple("Vector", "function size message domain length digest")
+# what is asked of the function, and the bytes printed: the whole output, or its last ones; the kind of the message is ptn or ff
+Vector = namedtuple("Vector", "function kind size message domain length digest")
 
 
 def message_of(text):
-    """(length, a function that makes the bytes) of a message in the draft's notation."""
+    """(kind, length, a function that makes the bytes) of a message in the draft's notation; the empty one counts as ptn."""
     pattern = re.fullmatch(r"ptn\(17\*\*(\d) bytes\)", text)
     if pattern:
         size = 17 ** int(pattern.group(1))
-        return size, lambda: reference.ptn(size)
+        return "ptn", size, lambda: reference.ptn(size)
     if text == "`00`^0":
-        return 0, lambda: b""
+        return "ptn", 0, lambda: b""
     data = bytes.fromhex(text.strip("`"))
-    return len(data), lambda: data
+    if data.strip(b"\xff"):
+        raise ValueError(f"a message of no known kind: {text}")
+    return "ff", len(data), lambda: data
 
 
 def turboshake():
