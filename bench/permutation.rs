@@ -2,27 +2,16 @@
 //!
 //!   permutation compare           a million permutations of each, alternating: best, median and ratio
 //!   permutation rattle|rust N     N permutations of one of them, for an instruction count
+mod constants;
+mod measure;
+
+use constants::ROUND_CONSTANTS;
 use std::time::Instant;
 
 extern "C" {
     // crates/bench/src/lib.rt; the array passes as a pointer.
     fn bench_permute(lanes: &mut [u64; 25], count: usize);
 }
-
-const ROUND_CONSTANTS: [u64; 12] = [
-    0x000000008000808B,
-    0x800000000000008B,
-    0x8000000000008089,
-    0x8000000000008003,
-    0x8000000000008002,
-    0x8000000000000080,
-    0x000000000000800A,
-    0x800000008000000A,
-    0x8000000080008081,
-    0x8000000000008080,
-    0x0000000080000001,
-    0x8000000080008008,
-];
 
 /// The walk of rho and pi over the lanes: where each lane goes, and by how much it is rotated.
 const TARGETS: [usize; 24] = [10, 7, 11, 17, 18, 3, 5, 16, 8, 21, 24, 4, 15, 23, 19, 13, 12, 2, 20, 14, 22, 9, 6, 1];
@@ -79,20 +68,8 @@ fn timed(f: fn(&mut [u64; 25], usize), count: usize) -> (f64, u64) {
 }
 
 fn compare(count: usize, repeats: usize) {
-    let (mut rattle, mut rust) = (Vec::new(), Vec::new());
-    for _ in 0..repeats {
-        let (t, first) = timed(rattle_permute, count);
-        let (u, second) = timed(rust_permute, count);
-        assert_eq!(first, second, "the two disagree");
-        rattle.push(t);
-        rust.push(u);
-    }
-    rattle.sort_by(f64::total_cmp);
-    rust.sort_by(f64::total_cmp);
-    let line = |name: &str, a: f64, b: f64| println!("{name:7} rattle {a:7.1} ns   rust {b:7.1} ns   ratio {:.3}", a / b);
-    println!("{count} permutations, {repeats} repeats of each, alternating; ns for one permutation");
-    line("best", rattle[0], rust[0]);
-    line("median", rattle[repeats / 2], rust[repeats / 2]);
+    let what = format!("{count} permutations, ns for one");
+    measure::compare(&what, "ns", repeats, || timed(rattle_permute, count), || timed(rust_permute, count));
 }
 
 fn main() {
