@@ -18,9 +18,8 @@ use Rattle.sponge.specs.Runs as runs
 use Rattle.sponge.proofs.Valid.{absorb-done, pad-done, squeeze-done}
 use Rattle.sponge.proofs.Valid.{output-done as valid-output}
 use Rattle.sponge.proofs.Reachable.{Shape}
-use Rattle.turboshake.specs.Model.{limit, domainStatus, rules, reachable, machine, seen, held, answerOf, outputOf}
+use Rattle.turboshake.specs.Model.{limit, domainStatus, rules, reachable, machine, seen, held, Answer, answerOf, outputOf}
 use Rattle.turboshake.specs.declared.Run.{Run}
-use Rattle.turboshake.specs.declared.Answer.{Answer}
 use Rattle.turboshake.proofs.Laws.{positions, due, shape, first-is}
 
 pub position-le : (rate n : ℕ) → 0 < rate → positionAfter rate n ≤ rate

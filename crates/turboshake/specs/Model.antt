@@ -14,7 +14,7 @@ use Rattle.sponge.specs.Runs as runs
 use Rattle.sponge.specs.Runs.{Machine, freshRun, perform}
 use Rattle.turboshake.specs.Published.{turboshake}
 use Rattle.turboshake.specs.declared.Run.{Run}
-use Rattle.turboshake.specs.declared.Answer.{Answer}
+use Rattle.turboshake.specs.declared.Moved.{Moved}
 use Rattle.turboshake.specs.declared.TurboShake128.{TurboShake128}
 use Rattle.turboshake.specs.declared.Answer128.{Answer128}
 use Rattle.turboshake.specs.declared.TurboShake256.{TurboShake256}
@@ -63,9 +63,20 @@ held r = record { lanes = r .state .value; position = r .state .position; phase 
 unfoldable pub freshOf : ℕ → Run
 freshOf rate = held (freshRun (rules rate) (machine rate))
 
--- what a call answers: the status and the run handed back
+-- a call's status, and the run that it hands back
+pub record Answer : Type 0 where
+  pub status : ℕ
+  pub run : Run
+
 unfoldable pub answerOf : ℕ → Run → Call ℕ → Answer
 answerOf rate r c = record { status = perform (rules rate) (machine rate) (seen r) c .status; run = held (perform (rules rate) (machine rate) (seen r) c .left) }
+
+-- the same from a run's parts
+abbrev pub runWith : List ℕ → ℕ → ℕ → ℕ → ℕ → Run
+runWith lanes position phase absorbed squeezed = record { lanes = lanes; position = position; phase = phase; absorbed = absorbed; squeezed = squeezed }
+
+abbrev pub answered : Moved → List ℕ → Answer
+answered m lanes = record { status = m .status; run = runWith lanes (m .position) (m .phase) (m .absorbed) (m .squeezed) }
 
 -- what the lent output holds after a squeeze, which held `out` before
 unfoldable pub outputOf : ℕ → Run → List ℕ → List ℕ

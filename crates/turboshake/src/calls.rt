@@ -4,8 +4,8 @@ ghost use Prim.Native.Nat.{ℕ, _<_, _≤_};
 ghost use lib.ListN.{length};
 ghost use Rattle.sponge.specs.Waiting.{positionAfter};
 ghost use Rattle.sponge.specs.Transcript.{Call};
-ghost use Rattle.turboshake.specs.Model.{domainStatus, reachable, freshOf, answerOf, outputOf, hashStatus, hashOutput};
-use crate::Answer;
+ghost use Rattle.turboshake.specs.Model.{domainStatus, reachable, freshOf, runWith, answered, answerOf, outputOf, hashStatus, hashOutput};
+use crate::Moved;
 use crate::Run;
 
 const ABSORBING: u8 = 0;
@@ -60,12 +60,6 @@ fn domain_status(domain: u8) -> u8
     sponge::status::DONE
 }
 
-fn refused(status: u8, run: Run) -> Answer
-    ensures { λ r. ⌜ r ≡ record { status = status; run = run } ⌝ }
-{
-    Answer { status, run }
-}
-
 pub fn fresh() -> Run
     ensures { λ r. ⌜ ((rate : ℕ) → r ≡ freshOf rate) ⌝ }
 {
@@ -79,76 +73,160 @@ pub fn fresh() -> Run
     }
 }
 
-pub fn absorb(rate: usize, run: Run, piece: &[u8]) -> Answer
-    requires { ⌜ (0 < rate) × (rate ≤ 200) ⌝ }
-    ensures { λ r. ⌜ r ≡ answerOf rate run (Call.absorb (now (piece .entry))) ⌝ }
+fn refused(status: u8, position: usize, phase: u8, absorbed: u64, squeezed: u64) -> Moved
+    ensures { λ r. ⌜ r ≡ record { status = status; position = position; phase = phase; absorbed = absorbed; squeezed = squeezed } ⌝ }
 {
-    if !is_reachable(rate, run.position, run.phase, run.absorbed, run.squeezed) {
-        return refused(sponge::status::UNREACHABLE, run);
-    }
-    if run.phase != ABSORBING {
-        return refused(sponge::status::WRONG_PHASE, run);
-    }
-    let total = run.absorbed + piece.len() as u64;
-    if LIMIT < total {
-        return refused(sponge::status::INPUT_TOO_LONG, run);
-    }
-    let mut next = run;
-    let taken = sponge::absorb(&mut next.lanes, run.position, rate, piece);
-    next.position = taken.position;
-    next.absorbed = total;
-    Answer {
-        status: taken.status,
-        run: next,
+    Moved {
+        status,
+        position,
+        phase,
+        absorbed,
+        squeezed,
     }
 }
 
-pub fn finalize(rate: usize, run: Run, domain: u8) -> Answer
+pub fn absorb(
+    rate: usize,
+    lanes: &mut [u64; 25],
+    position: usize,
+    phase: u8,
+    absorbed: u64,
+    squeezed: u64,
+    piece: &[u8],
+) -> Moved
     requires { ⌜ (0 < rate) × (rate ≤ 200) ⌝ }
-    ensures { λ r. ⌜ r ≡ answerOf rate run (Call.finalize domain) ⌝ }
+    ensures { λ r. ⌜ answered r (now (lanes .exit)) ≡ answerOf rate (runWith (now (lanes .entry)) position phase absorbed squeezed) (Call.absorb (now (piece .entry))) ⌝ }
 {
-    if !is_reachable(rate, run.position, run.phase, run.absorbed, run.squeezed) {
-        return refused(sponge::status::UNREACHABLE, run);
+    if !is_reachable(rate, position, phase, absorbed, squeezed) {
+        return refused(
+            sponge::status::UNREACHABLE,
+            position,
+            phase,
+            absorbed,
+            squeezed,
+        );
     }
-    if run.phase != ABSORBING {
-        return refused(sponge::status::WRONG_PHASE, run);
+    if phase != ABSORBING {
+        return refused(
+            sponge::status::WRONG_PHASE,
+            position,
+            phase,
+            absorbed,
+            squeezed,
+        );
+    }
+    let total = absorbed + piece.len() as u64;
+    if LIMIT < total {
+        return refused(
+            sponge::status::INPUT_TOO_LONG,
+            position,
+            phase,
+            absorbed,
+            squeezed,
+        );
+    }
+    let taken = sponge::absorb(lanes, position, rate, piece);
+    Moved {
+        status: taken.status,
+        position: taken.position,
+        phase,
+        absorbed: total,
+        squeezed,
+    }
+}
+
+pub fn finalize(
+    rate: usize,
+    lanes: &mut [u64; 25],
+    position: usize,
+    phase: u8,
+    absorbed: u64,
+    squeezed: u64,
+    domain: u8,
+) -> Moved
+    requires { ⌜ (0 < rate) × (rate ≤ 200) ⌝ }
+    ensures { λ r. ⌜ answered r (now (lanes .exit)) ≡ answerOf rate (runWith (now (lanes .entry)) position phase absorbed squeezed) (Call.finalize domain) ⌝ }
+{
+    if !is_reachable(rate, position, phase, absorbed, squeezed) {
+        return refused(
+            sponge::status::UNREACHABLE,
+            position,
+            phase,
+            absorbed,
+            squeezed,
+        );
+    }
+    if phase != ABSORBING {
+        return refused(
+            sponge::status::WRONG_PHASE,
+            position,
+            phase,
+            absorbed,
+            squeezed,
+        );
     }
     let status = domain_status(domain);
     if status != sponge::status::DONE {
-        return refused(status, run);
+        return refused(status, position, phase, absorbed, squeezed);
     }
-    let mut next = run;
-    let padded = sponge::pad(&mut next.lanes, run.position, rate, domain);
-    next.position = padded.position;
-    next.phase = SQUEEZING;
-    Answer {
+    let padded = sponge::pad(lanes, position, rate, domain);
+    Moved {
         status: padded.status,
-        run: next,
+        position: padded.position,
+        phase: SQUEEZING,
+        absorbed,
+        squeezed,
     }
 }
 
-pub fn squeeze(rate: usize, run: Run, out: &mut [u8]) -> Answer
+pub fn squeeze(
+    rate: usize,
+    lanes: &mut [u64; 25],
+    position: usize,
+    phase: u8,
+    absorbed: u64,
+    squeezed: u64,
+    out: &mut [u8],
+) -> Moved
     requires { ⌜ (0 < rate) × (rate ≤ 200) ⌝ }
-    ensures { λ r. ⌜ r ≡ answerOf rate run (Call.squeeze (length (now (out .entry)))) ⌝ }
-    ensures { λ r. ⌜ now (out .exit) ≡ outputOf rate run (now (out .entry)) ⌝ }
+    ensures { λ r. ⌜ answered r (now (lanes .exit)) ≡ answerOf rate (runWith (now (lanes .entry)) position phase absorbed squeezed) (Call.squeeze (length (now (out .entry)))) ⌝ }
+    ensures { λ r. ⌜ now (out .exit) ≡ outputOf rate (runWith (now (lanes .entry)) position phase absorbed squeezed) (now (out .entry)) ⌝ }
 {
-    if !is_reachable(rate, run.position, run.phase, run.absorbed, run.squeezed) {
-        return refused(sponge::status::UNREACHABLE, run);
+    if !is_reachable(rate, position, phase, absorbed, squeezed) {
+        return refused(
+            sponge::status::UNREACHABLE,
+            position,
+            phase,
+            absorbed,
+            squeezed,
+        );
     }
-    if run.phase != SQUEEZING {
-        return refused(sponge::status::WRONG_PHASE, run);
+    if phase != SQUEEZING {
+        return refused(
+            sponge::status::WRONG_PHASE,
+            position,
+            phase,
+            absorbed,
+            squeezed,
+        );
     }
-    let total = run.squeezed + out.len() as u64;
+    let total = squeezed + out.len() as u64;
     if LIMIT < total {
-        return refused(sponge::status::OUTPUT_TOO_LONG, run);
+        return refused(
+            sponge::status::OUTPUT_TOO_LONG,
+            position,
+            phase,
+            absorbed,
+            squeezed,
+        );
     }
-    let mut next = run;
-    let given = sponge::squeeze(&mut next.lanes, run.position, rate, out);
-    next.position = given.position;
-    next.squeezed = total;
-    Answer {
+    let given = sponge::squeeze(lanes, position, rate, out);
+    Moved {
         status: given.status,
-        run: next,
+        position: given.position,
+        phase,
+        absorbed,
+        squeezed: total,
     }
 }
 

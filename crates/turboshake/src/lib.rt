@@ -17,28 +17,34 @@ pub struct Run {
     pub squeezed: u64,
 }
 
-// What a call on a run answers: the status, and the run, which is the one given where the status is not 0.
-pub struct Answer {
+// What a call leaves of a run beside its lanes, and its status.
+pub struct Moved {
     pub status: u8,
-    pub run: Run,
+    pub position: usize,
+    pub phase: u8,
+    pub absorbed: u64,
+    pub squeezed: u64,
 }
 
+// A run of TurboSHAKE128.
 pub struct TurboShake128 {
     pub run: Run,
 }
 
+// What a call answers: the status, and the run, which is the one given where the status is not 0.
 pub struct Answer128 {
-    pub status: u8,
     pub hasher: TurboShake128,
+    pub status: u8,
 }
 
+// A run of TurboSHAKE256.
 pub struct TurboShake256 {
     pub run: Run,
 }
 
 pub struct Answer256 {
-    pub status: u8,
     pub hasher: TurboShake256,
+    pub status: u8,
 }
 
 impl TurboShake128 {
@@ -61,12 +67,24 @@ impl TurboShake128 {
         ensures { λ r. ⌜ r ≡ answer128 self (Call.absorb (now (piece .entry))) ⌝ }
     {
         let given = self.run;
-        let answer = calls::absorb(Self::RATE, given, piece);
-        let run = answer.run;
+        let mut run = given;
+        let moved = calls::absorb(
+            Self::RATE,
+            &mut run.lanes,
+            given.position,
+            given.phase,
+            given.absorbed,
+            given.squeezed,
+            piece,
+        );
+        run.position = moved.position;
+        run.phase = moved.phase;
+        run.absorbed = moved.absorbed;
+        run.squeezed = moved.squeezed;
         let hasher = TurboShake128 { run };
         Answer128 {
-            status: answer.status,
             hasher,
+            status: moved.status,
         }
     }
 
@@ -75,12 +93,24 @@ impl TurboShake128 {
         ensures { λ r. ⌜ r ≡ answer128 self (Call.finalize domain) ⌝ }
     {
         let given = self.run;
-        let answer = calls::finalize(Self::RATE, given, domain);
-        let run = answer.run;
+        let mut run = given;
+        let moved = calls::finalize(
+            Self::RATE,
+            &mut run.lanes,
+            given.position,
+            given.phase,
+            given.absorbed,
+            given.squeezed,
+            domain,
+        );
+        run.position = moved.position;
+        run.phase = moved.phase;
+        run.absorbed = moved.absorbed;
+        run.squeezed = moved.squeezed;
         let hasher = TurboShake128 { run };
         Answer128 {
-            status: answer.status,
             hasher,
+            status: moved.status,
         }
     }
 
@@ -90,12 +120,24 @@ impl TurboShake128 {
         ensures { λ r. ⌜ now (out .exit) ≡ outputOf 168 (self .run) (now (out .entry)) ⌝ }
     {
         let given = self.run;
-        let answer = calls::squeeze(Self::RATE, given, out);
-        let run = answer.run;
+        let mut run = given;
+        let moved = calls::squeeze(
+            Self::RATE,
+            &mut run.lanes,
+            given.position,
+            given.phase,
+            given.absorbed,
+            given.squeezed,
+            out,
+        );
+        run.position = moved.position;
+        run.phase = moved.phase;
+        run.absorbed = moved.absorbed;
+        run.squeezed = moved.squeezed;
         let hasher = TurboShake128 { run };
         Answer128 {
-            status: answer.status,
             hasher,
+            status: moved.status,
         }
     }
 
@@ -128,12 +170,24 @@ impl TurboShake256 {
         ensures { λ r. ⌜ r ≡ answer256 self (Call.absorb (now (piece .entry))) ⌝ }
     {
         let given = self.run;
-        let answer = calls::absorb(Self::RATE, given, piece);
-        let run = answer.run;
+        let mut run = given;
+        let moved = calls::absorb(
+            Self::RATE,
+            &mut run.lanes,
+            given.position,
+            given.phase,
+            given.absorbed,
+            given.squeezed,
+            piece,
+        );
+        run.position = moved.position;
+        run.phase = moved.phase;
+        run.absorbed = moved.absorbed;
+        run.squeezed = moved.squeezed;
         let hasher = TurboShake256 { run };
         Answer256 {
-            status: answer.status,
             hasher,
+            status: moved.status,
         }
     }
 
@@ -142,12 +196,24 @@ impl TurboShake256 {
         ensures { λ r. ⌜ r ≡ answer256 self (Call.finalize domain) ⌝ }
     {
         let given = self.run;
-        let answer = calls::finalize(Self::RATE, given, domain);
-        let run = answer.run;
+        let mut run = given;
+        let moved = calls::finalize(
+            Self::RATE,
+            &mut run.lanes,
+            given.position,
+            given.phase,
+            given.absorbed,
+            given.squeezed,
+            domain,
+        );
+        run.position = moved.position;
+        run.phase = moved.phase;
+        run.absorbed = moved.absorbed;
+        run.squeezed = moved.squeezed;
         let hasher = TurboShake256 { run };
         Answer256 {
-            status: answer.status,
             hasher,
+            status: moved.status,
         }
     }
 
@@ -157,12 +223,24 @@ impl TurboShake256 {
         ensures { λ r. ⌜ now (out .exit) ≡ outputOf 136 (self .run) (now (out .entry)) ⌝ }
     {
         let given = self.run;
-        let answer = calls::squeeze(Self::RATE, given, out);
-        let run = answer.run;
+        let mut run = given;
+        let moved = calls::squeeze(
+            Self::RATE,
+            &mut run.lanes,
+            given.position,
+            given.phase,
+            given.absorbed,
+            given.squeezed,
+            out,
+        );
+        run.position = moved.position;
+        run.phase = moved.phase;
+        run.absorbed = moved.absorbed;
+        run.squeezed = moved.squeezed;
         let hasher = TurboShake256 { run };
         Answer256 {
-            status: answer.status,
             hasher,
+            status: moved.status,
         }
     }
 

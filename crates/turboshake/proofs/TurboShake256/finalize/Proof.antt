@@ -1,5 +1,5 @@
 use mathlib.Core.Path.{ap}
-use Rattle.turboshake.specs.declared.Answer.{Answer}
+use Rattle.turboshake.specs.Model.{Answer}
 use borrow.Author.Needs.{needs}
 use Rattle.turboshake.proofs.TurboShake256.finalize.Statement.{statement}
 use Rattle.turboshake.proofs.TurboShake256.finalize.Tie as tie
@@ -11,7 +11,7 @@ finalize-requires : tie.Need-finalize-requires
 finalize-requires c κs = search needs
 
 returns : tie.Need-returns
-returns c = ap (λ (a : Answer). record { status = a .status; hasher = record { run = a .run } }) (c .before .finalize .ensures)
+returns c = ap (λ (a : Answer). record { status = a .status; hasher = record { run = a .run } }) (c .finalize .ensures)
 
 pub finalize-spec : {M : Type 1} → statement M
 finalize-spec = tie.close (tie.spec finalize-requires returns)

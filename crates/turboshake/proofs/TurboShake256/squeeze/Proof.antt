@@ -1,5 +1,5 @@
 use mathlib.Core.Path.{ap}
-use Rattle.turboshake.specs.declared.Answer.{Answer}
+use Rattle.turboshake.specs.Model.{Answer}
 use borrow.Author.Needs.{needs}
 use Rattle.turboshake.proofs.TurboShake256.squeeze.Statement.{statement}
 use Rattle.turboshake.proofs.TurboShake256.squeeze.Tie as tie
@@ -15,7 +15,7 @@ same-length c = search needs
 
 returns : tie.Need-returns
 returns c =
-    let r = c .before .before .before .squeeze in
+    let r = c .before .before .squeeze in
     (ap (λ (a : Answer). record { status = a .status; hasher = record { run = a .run } }) (r .ensures .0), r .ensures .1)
 
 pub squeeze-spec : {M : Type 1} → statement M

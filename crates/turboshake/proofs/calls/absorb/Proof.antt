@@ -1,4 +1,4 @@
-use mathlib.Core.Path.{_≡_, sym, _∙_}
+use mathlib.Core.Path.{_≡_, ap, sym, _∙_}
 use mathlib.Core.Bool.{true}
 use Prim.Native.Nat.{ℕ, _+_, _≤_, _<_}
 use native.Mathlib.Omega.{arith}
@@ -8,7 +8,9 @@ use borrow.Author.Tests.{not-true, not-false}
 use Rattle.sponge.specs.Model.{valid}
 use Rattle.sponge.specs.Transcript.{Call.absorb}
 use Rattle.sponge.proofs.Valid.{fits-valid}
-use Rattle.turboshake.specs.Model.{limit, reachable}
+use Rattle.turboshake.specs.Model.{limit, reachable, runWith, answered}
+use Rattle.turboshake.specs.declared.Run.{Run}
+use Rattle.turboshake.specs.declared.Moved.{Moved}
 use Rattle.turboshake.proofs.Cases.{fits, status-5, absorb-3, absorb-2, absorb-0, answer-refused, absorb-answer}
 use Rattle.turboshake.proofs.calls.absorb.Statement.{statement}
 use Rattle.turboshake.proofs.calls.absorb.Tie as tie
@@ -19,13 +21,15 @@ use Rattle.turboshake.proofs.calls.is_reachable.Reads as is-reachable-r
 use Rattle.turboshake.proofs.calls.refused.Reads as refused-reads
 
 -- past the first test the run is one that 5 does not refuse
-was : (c : tie.Else1) → reachable (c .before .before .before .args .rate) (c .before .before .before .args .run .position) (c .before .before .before .args .run .phase) (c .before .before .before .args .run .absorbed) (c .before .before .before .args .run .squeezed) ≡ true
+was : (c : tie.Else1) → reachable (c .before .before .before .args .rate) (c .before .before .before .args .position) (c .before .before .before .args .phase) (c .before .before .before .args .absorbed) (c .before .before .before .args .squeezed) ≡ true
 was c = sym (c .before .is-reachable .ensures) ∙ not-false _ (c .if1 .left)
 
-fit : (c : tie.Else1) → (c .before .before .before .args .run .position ≤ c .before .before .before .args .rate) × (c .before .before .before .args .run .absorbed ≤ limit) × (c .before .before .before .args .run .squeezed ≤ limit)
-fit c = fits (c .before .before .before .args .rate) (c .before .before .before .args .run) (c .before .before .before .pre .0) (was c)
+fit : (c : tie.Else1) → (c .before .before .before .args .position ≤ c .before .before .before .args .rate) × (c .before .before .before .args .absorbed ≤ limit) × (c .before .before .before .args .squeezed ≤ limit)
+fit c =
+    let a = c .before .before .before .args in
+    fits (a .rate) (runWith (a .lanes .now) (a .position) (a .phase) (a .absorbed) (a .squeezed)) (c .before .before .before .pre .0) (was c)
 
-ok : (c : tie.Else1) → valid (c .before .before .before .args .rate) (c .before .before .before .args .run .position) ≡ true
+ok : (c : tie.Else1) → valid (c .before .before .before .args .rate) (c .before .before .before .args .position) ≡ true
 ok c = fits-valid _ _ (fit c .0) (c .before .before .before .pre .0) (c .before .before .before .pre .1)
 
 is-reachable-requires : tie.Need-is-reachable-requires
@@ -43,33 +47,37 @@ refused-requires-3 c κs = search needs
 returns : tie.Need-returns
 returns c =
     let a = c .before .before .before .before .args in
-    let e = status-5 (a .rate) (a .run) (absorb (a .piece .now)) (sym (c .before .before .is-reachable .ensures) ∙ not-true _ (c .before .if1 .taken)) in
-    c .refused .ensures ∙ answer-refused (a .rate) (a .run) (absorb (a .piece .now)) 4 e
+    let r : Run = runWith (a .lanes .now) (a .position) (a .phase) (a .absorbed) (a .squeezed) in
+    let e = status-5 (a .rate) r (absorb (a .piece .now)) (sym (c .before .before .is-reachable .ensures) ∙ not-true _ (c .before .if1 .taken)) in
+    ap (λ (m : Moved). answered m (a .lanes .now)) (c .refused .ensures) ∙ answer-refused (a .rate) r (absorb (a .piece .now)) 4 e
 
 returns-2 : tie.Need-returns-2
 returns-2 c =
-    let a = c .before .before .before .before .before .before .args in
-    let e = absorb-3 (a .rate) (a .run) (was (c .before .before .before)) (a .piece .now) (c .before .if2 .taken) in
-    c .refused2 .ensures ∙ answer-refused (a .rate) (a .run) (absorb (a .piece .now)) 2 e
+    let a = c .before .before .before .before .before .args in
+    let r : Run = runWith (a .lanes .now) (a .position) (a .phase) (a .absorbed) (a .squeezed) in
+    let e = absorb-3 (a .rate) r (was (c .before .before)) (a .piece .now) (c .before .if2 .taken) in
+    ap (λ (m : Moved). answered m (a .lanes .now)) (c .refused2 .ensures) ∙ answer-refused (a .rate) r (absorb (a .piece .now)) 2 e
 
 add-total : tie.Need-add-total
-add-total c = let h = fit (c .before .before .before) in omega arith
+add-total c = let h = fit (c .before) in omega arith
 
 returns-3 : tie.Need-returns-3
 returns-3 c =
-    let a = c .before .before .before .before .before .before .before .before .args in
-    let e = absorb-2 (a .rate) (a .run) (was (c .before .before .before .before .before)) (a .piece .now) (c .before .before .before .if2 .left) (c .before .if3 .taken) in
-    c .refused3 .ensures ∙ answer-refused (a .rate) (a .run) (absorb (a .piece .now)) 1 e
+    let a = c .before .before .before .before .before .before .args in
+    let r : Run = runWith (a .lanes .now) (a .position) (a .phase) (a .absorbed) (a .squeezed) in
+    let e = absorb-2 (a .rate) r (was (c .before .before .before)) (a .piece .now) (c .before .before .if2 .left) (c .before .if3 .taken) in
+    ap (λ (m : Moved). answered m (a .lanes .now)) (c .refused3 .ensures) ∙ answer-refused (a .rate) r (absorb (a .piece .now)) 1 e
 
 absorb-requires : tie.Need-absorb-requires
 absorb-requires c κs = search needs
 
 returns-4 : tie.Need-returns-4
 returns-4 c =
-    let a = c .before .before .before .before .before .before .before .before .before .args in
-    let past = c .before .before .before .before .before .before in
-    let e = absorb-0 (a .rate) (a .run) (was past) (a .piece .now) (c .before .before .before .before .if2 .left) (c .before .before .if3 .left) in
-    absorb-answer (a .rate) (a .run) (ok past) (a .piece .now) (record { status = c .absorb .result .status; state = record { value = c .absorb .last .0; position = c .absorb .result .position } }) (c .absorb .ensures) e
+    let a = c .before .before .before .before .before .before .before .args in
+    let r : Run = runWith (a .lanes .now) (a .position) (a .phase) (a .absorbed) (a .squeezed) in
+    let past = c .before .before .before .before in
+    let e = absorb-0 (a .rate) r (was past) (a .piece .now) (c .before .before .before .if2 .left) (c .before .before .if3 .left) in
+    absorb-answer (a .rate) r (ok past) (a .piece .now) (record { status = c .absorb .result .status; state = record { value = c .absorb .last .0; position = c .absorb .result .position } }) (c .absorb .ensures) e
 
 pub absorb-spec : {M : Type 1} → statement M
 absorb-spec =
