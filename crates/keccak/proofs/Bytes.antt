@@ -45,6 +45,15 @@ digit-word (b ∷ s) w h =
     ∙ add-comm (w % 256) _ ∙ ap (λ (n : ℕ). n + w % 256) (mul-comm 256 _)
     ∙ sym (mod-pow-add w (8 * length s) 8) ∙ ap (λ (k : ℕ). w % 2 ^ k) (sym (mul-suc 8 (length s)))
 
+-- the number of no bytes, and of a byte more
+pub word-nil : word [] ≡ 0
+unfolding word
+word-nil = refl
+
+pub word-cons : (b : ℕ) (s : List ℕ) → word (b ∷ s) ≡ b + 256 * word s
+unfolding word
+word-cons b s = refl
+
 -- byte i is byte i % 8 of lane i / 8
 pub byte-is : (a : List ℕ) (i : ℕ) → byteAt a i ≡ getD a (i / 8) 0 / 2 ^ (8 * (i % 8)) % 256
 unfolding byteAt

@@ -3,17 +3,18 @@
 use mathlib.Core.Path.{_≡_, refl, sym, ap, _∙_}
 use mathlib.Core.List.{List, [], _∷_, _++_}
 use Prim.Native.Nat.{ℕ, zero, suc, _+_, _-_, _*_, _/_, _%_, _^_, _<_, _≤_}
-use native.Mathlib.Nat.{zero-mul, zero-add, add-zero, add-suc, suc-add, add-comm, mul-one, mul-suc, mul-comm, mul-assoc, add-mul}
+use native.Mathlib.Nat.{lt-of-lt-of-le, zero-mul, zero-add, add-zero, add-suc, suc-add, add-comm, mul-one, mul-suc, mul-comm, mul-assoc, add-mul}
 use native.Mathlib.Numerals.{add-one}
 use native.Mathlib.Decide.{decLt}
 use native.Mathlib.Omega.{arith}
 use lib.ListN.{length, getD, take, drop, set, length-take, length-drop, drop-of-length-le, take-append-drop, List·getD-eq-default}
 use lib.Seq.{drop-cons, set-getD, set-set, set-out, getD-set-same, take-all, length-take-le, getD-take, getD-drop, drop-drop}
 use lib.Bits.{bitXor, xor-zero-r, xor-comm, xor-shifted}
-use lib.Pow.{shl-exact, shl-lt, pow-add}
+use lib.Pow.{shl-exact, shl-lt, pow-add, pow-mono}
+use Rattle.keccak.specs.State.{word}
+use Rattle.keccak.proofs.Bytes.{word-nil, word-cons}
 use Rattle.sponge.specs.Cut.{puts}
 use Rattle.sponge.specs.Published.{xorByte}
-use Rattle.sponge.specs.Words.{wordAt}
 use Rattle.sponge.proofs.Xor.{xor-assoc}
 
 -- w XORed into lane q
@@ -40,11 +41,6 @@ byte-lane l q j b h =
     let f : (8 * q + j) % 8 ≡ j = omega arith in
     rw (e, f)
 
--- the number whose bytes these are, the least significant first
-number : List ℕ → ℕ
-number [] = 0
-number (b ∷ bs) = b + 256 * number bs
-
 shift : (b n j : ℕ) → b * 2 ^ (8 * j) + n * 2 ^ (8 * suc j) ≡ (b + 256 * n) * 2 ^ (8 * j)
 shift b n j =
     let p : ℕ = 2 ^ (8 * j) in
@@ -53,18 +49,17 @@ shift b n j =
 
 -- bytes that stand in one lane
 lane-bytes : (bs : List ℕ) (l : List ℕ) (q j : ℕ) → ((k : ℕ) → getD bs k 0 < 256) → j + length bs ≤ 8
-    → puts xorByte l (8 * q + j) bs ≡ xorLane l q (number bs * 2 ^ (8 * j))
-unfolding number
-lane-bytes [] l q j h g = sym (rw (zero-mul, xor-zero-r, set-getD))
+    → puts xorByte l (8 * q + j) bs ≡ xorLane l q (word bs * 2 ^ (8 * j))
+lane-bytes [] l q j h g = sym (rw (word-nil, zero-mul, xor-zero-r, set-getD))
 lane-bytes (b ∷ bs) l q j h g =
     let hb : b < 2 ^ 8 = h 0 in
     let lo : b * 2 ^ (8 * j) < 2 ^ (8 * suc j) = rw (mul-suc 8 j, add-comm (8 * j) 8) (shl-lt 8 (8 * j) hb) in
     let e : suc (8 * q + j) ≡ 8 * q + suc j = sym (add-suc (8 * q) j) in
     ap (λ (n : ℕ). puts xorByte (xorByte l (8 * q + j) b) n bs) e
     ∙ lane-bytes bs (xorByte l (8 * q + j) b) q (suc j) (λ k. h (suc k)) (omega arith)
-    ∙ ap (λ (m : List ℕ). xorLane m q (number bs * 2 ^ (8 * suc j))) (byte-lane l q j b (omega arith))
-    ∙ lane-join l q (8 * suc j) (b * 2 ^ (8 * j)) (number bs) lo
-    ∙ ap (xorLane l q) (shift b (number bs) j)
+    ∙ ap (λ (m : List ℕ). xorLane m q (word bs * 2 ^ (8 * suc j))) (byte-lane l q j b (omega arith))
+    ∙ lane-join l q (8 * suc j) (b * 2 ^ (8 * j)) (word bs) lo
+    ∙ ap (xorLane l q) (shift b (word bs) j ∙ ap (λ (n : ℕ). n * 2 ^ (8 * j)) (sym (word-cons b bs)))
 
 -- the bytes of two lists in a row
 pub puts-append : (l : List ℕ) (p : ℕ) (s t : List ℕ) → puts xorByte l p (s ++ t) ≡ puts xorByte (puts xorByte l p s) (p + length s) t
@@ -83,19 +78,53 @@ digitsAt : ℕ → List ℕ → ℕ → ℕ → ℕ
 digitsAt zero s i k = 0
 digitsAt (suc n) s i k = getD s (i + k) 0 + 256 * digitsAt n s i (suc k)
 
-number-at : (n : ℕ) (s : List ℕ) (i k : ℕ) → i + k + n ≤ length s → number (take n (drop (i + k) s)) ≡ digitsAt n s i k
-unfolding number digitsAt
-number-at zero s i k h = refl
-number-at (suc n) s i k h =
-    ap (λ (t : List ℕ). number (take (suc n) t)) (drop-cons s (i + k) 0 (omega arith))
-    ∙ ap (λ (x : ℕ). getD s (i + k) 0 + 256 * x) (ap (λ (m : ℕ). number (take n (drop m s))) (sym (add-suc i k)) ∙ number-at n s i (suc k) (omega arith))
+word-digits : (n : ℕ) (s : List ℕ) (i k : ℕ) → i + k + n ≤ length s → word (take n (drop (i + k) s)) ≡ digitsAt n s i k
+unfolding digitsAt
+word-digits zero s i k h = word-nil
+word-digits (suc n) s i k h =
+    ap (λ (t : List ℕ). word (take (suc n) t)) (drop-cons s (i + k) 0 (omega arith)) ∙ word-cons (getD s (i + k) 0) (take n (drop (suc (i + k)) s))
+    ∙ ap (λ (x : ℕ). getD s (i + k) 0 + 256 * x) (ap (λ (m : ℕ). word (take n (drop m s))) (sym (add-suc i k)) ∙ word-digits n s i (suc k) (omega arith))
 
--- eight bytes are the word that the code makes of them
-number-word : (s : List ℕ) (i : ℕ) → i + 8 ≤ length s → number (take 8 (drop i s)) ≡ wordAt s i
-unfolding wordAt digitsAt
-number-word s i h =
+-- eight bytes are the sum that the code makes of them
+pub word-sum : (s : List ℕ) (i : ℕ) → i + 8 ≤ length s
+    → getD s i 0 + getD s (i + 1) 0 * 0x100 + getD s (i + 2) 0 * 0x10000 + getD s (i + 3) 0 * 0x1000000 + getD s (i + 4) 0 * 0x100000000
+    + getD s (i + 5) 0 * 0x10000000000 + getD s (i + 6) 0 * 0x1000000000000 + getD s (i + 7) 0 * 0x100000000000000 ≡ word (take 8 (drop i s))
+unfolding digitsAt
+word-sum s i h =
     let first : getD s (i + 0) 0 ≡ getD s i 0 = rw add-zero in
-    ap (λ (m : ℕ). number (take 8 (drop m s))) (sym (add-zero i)) ∙ number-at 8 s i 0 (omega arith) ∙ omega (arith, first)
+    let e : word (take 8 (drop (i + 0) s)) ≡ digitsAt 8 s i 0 = word-digits 8 s i 0 (omega arith) in
+    sym (ap (λ (m : ℕ). word (take 8 (drop m s))) (sym (add-zero i)) ∙ e ∙ omega (arith, first))
+
+-- ---- the loop that makes a number of up to eight bytes, the last one first
+
+-- a number is below the power of its bytes
+word-lt : (s : List ℕ) → ((k : ℕ) → getD s k 0 < 256) → word s < 2 ^ (8 * length s)
+word-lt [] h = rw word-nil (omega arith)
+word-lt (b ∷ s) h =
+    let t : word s < 2 ^ (8 * length s) = word-lt s (λ k. h (suc k)) in
+    let hb : b < 256 = h 0 in
+    let e : 2 ^ (8 * suc (length s)) ≡ 256 * 2 ^ (8 * length s) = ap (λ (k : ℕ). 2 ^ k) (mul-suc 8 (length s)) ∙ pow-add 2 (8 * length s) 8 ∙ mul-comm (2 ^ (8 * length s)) 256 in
+    rw (word-cons b s, e) (omega arith)
+
+pub word-fits : (s : List ℕ) (i : ℕ) → ((k : ℕ) → getD s k 0 < 256) → length s ≤ 8 → 0 < i → word (drop i s) < 2 ^ 56
+word-fits s i h l g =
+    let n : length (drop i s) ≤ 7 = simp length-drop (omega arith) in
+    lt-of-lt-of-le (word-lt (drop i s) (λ k. rw (getD-drop i s k 0) (h (i + k)))) (pow-mono {i = 8 * length (drop i s)} {j = 56} (omega arith))
+
+pub word-more : (s : List ℕ) (i : ℕ) → i < length s → word (drop (suc i) s) * 256 + getD s i 0 ≡ word (drop i s)
+word-more s i h = sym (ap word (drop-cons s i 0 h) ∙ word-cons (getD s i 0) (drop (suc i) s) ∙ omega arith)
+
+pub word-done : (s : List ℕ) (i : ℕ) → length s ≤ i → 0 ≡ word (drop i s)
+word-done s i h = sym (ap word (drop-of-length-le s h) ∙ word-nil)
+
+-- bytes within one lane, shifted to their position in it: the machine's shift loses nothing
+pub lane-shifted : (l : List ℕ) (p w : ℕ) (s : List ℕ) → ((k : ℕ) → getD s k 0 < 256) → p % 8 + length s ≤ 8 → w ≡ word s
+    → set l (p / 8) (bitXor (getD l (p / 8) 0) (w * 2 ^ (8 * (p % 8)) % 2 ^ 64)) ≡ puts xorByte l p s
+lane-shifted l p w s h g e =
+    let at : 8 * (p / 8) + p % 8 ≡ p = omega arith in
+    let small : w < 2 ^ (8 * length s) = rw e (word-lt s h) in
+    ap (xorLane l (p / 8)) (shl-exact (8 * length s) (8 * (p % 8)) 64 small (omega arith) ∙ ap (λ (n : ℕ). n * 2 ^ (8 * (p % 8))) e)
+    ∙ sym (lane-bytes s l (p / 8) (p % 8) h g) ∙ ap (λ (n : ℕ). puts xorByte l n s) at
 
 -- a part of bytes has bytes
 part-bytes : (s : List ℕ) (i n : ℕ) → ((j : ℕ) → getD s j 0 < 256) → (k : ℕ) → getD (take n (drop i s)) k 0 < 256
@@ -109,16 +138,15 @@ part-bytes s i n h k = by (decLt k n)
 
 -- the step of the loop over words
 pub word-step : (l s : List ℕ) (q i : ℕ) → i + 8 ≤ length s → ((j : ℕ) → getD s j 0 < 256)
-    → puts xorByte l (8 * q) (drop i s) ≡ puts xorByte (xorLane l q (wordAt s i)) (8 * (q + 1)) (drop (i + 8) s)
+    → puts xorByte l (8 * q) (drop i s) ≡ puts xorByte (xorLane l q (word (take 8 (drop i s)))) (8 * (q + 1)) (drop (i + 8) s)
 word-step l s q i h hb =
     let t : List ℕ = take 8 (drop i s) in
     let n : length t ≡ 8 = length-take-le 8 (drop i s) (simp length-drop (omega arith)) in
     let e : 8 * (q + 1) ≡ 8 * q + 8 = omega arith in
-    let w : number t * 2 ^ (8 * 0) ≡ wordAt s i = mul-one (number t) ∙ number-word s i h in
     sym (puts-parts l (8 * q) (drop i s) 8 (simp length-drop (omega arith)))
     ∙ ap (λ (m : List ℕ). puts xorByte m (8 * q + 8) (drop 8 (drop i s)))
     (ap (λ (p : ℕ). puts xorByte l p t) (sym (add-zero (8 * q))) ∙ lane-bytes t l q 0 (part-bytes s i 8 hb) (omega arith)
-    ∙ ap (xorLane l q) w)
+    ∙ ap (xorLane l q) (mul-one (word t)))
     ∙ rw (e, drop-drop 8 i s)
 
 -- the machine's shift of a byte within a word loses nothing
@@ -126,12 +154,6 @@ pub byte-shifted : (l : List ℕ) (p b w : ℕ) → w ≡ b → w < 256 → set 
 unfolding xorByte
 byte-shifted l p b w e h =
     ap (xorLane l (p / 8)) (shl-exact 8 (8 * (p % 8)) 64 h (omega arith) ∙ ap (λ (n : ℕ). n * 2 ^ (8 * (p % 8))) e)
-
--- the step of the loop over bytes
-pub byte-step : (l s : List ℕ) (at i : ℕ) → i < length s → puts xorByte l (at + i) (drop i s) ≡ puts xorByte (xorByte l (at + i) (getD s i 0)) (at + (i + 1)) (drop (i + 1) s)
-byte-step l s at i h =
-    let e : at + (i + 1) ≡ suc (at + i) = omega arith in
-    ap (puts xorByte l (at + i)) (drop-cons s i 0 h) ∙ rw (e, add-one)
 
 -- no bytes are left
 pub puts-done : (l s : List ℕ) (p i : ℕ) → length s ≤ i → puts xorByte l p (drop i s) ≡ l

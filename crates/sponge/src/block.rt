@@ -1,11 +1,11 @@
-// Bytes in and out of one block of the state: whole words where they stand on a lane's start, single bytes at ragged ends.
+// Bytes in and out of one block of the state: whole lanes at once, and what is ragged at both ends apart.
 ghost use mathlib.Core.Path.{_≡_};
-ghost use Prim.Native.Nat.{ℕ, _+_, _*_, _<_, _≤_};
-ghost use lib.ListN.{length};
-ghost use Rattle.keccak.specs.State.{byteAt};
+ghost use Prim.Native.Nat.{ℕ, _+_, _*_, _%_, _<_, _≤_};
+ghost use lib.ListN.{length, take, drop};
+ghost use Rattle.keccak.specs.State.{byteAt, word};
 ghost use Rattle.sponge.specs.Cut.{puts};
 ghost use Rattle.sponge.specs.Published.{xorByte, bytesFrom};
-ghost use Rattle.sponge.specs.Words.{wordAt, withWord};
+ghost use Rattle.sponge.specs.Words.{withWord};
 
 fn wide(x: u8) -> u64
     ensures { λ r. ⌜ (r ≡ x) × (r < 256) ⌝ }
@@ -22,10 +22,24 @@ pub fn xor_byte(lanes: &mut [u64; 25], at: usize, b: u8)
     lanes[q] = lanes[q] ^ (wide(b) << s);
 }
 
-// Eight bytes from index i on, the least significant first.
-fn word(s: &[u8], i: usize) -> u64
+// Up to eight bytes as a number, the least significant first.
+fn word_of(s: &[u8]) -> u64
+    requires { ⌜ length (now s) ≤ 8 ⌝ }
+    ensures { λ r. ⌜ r ≡ word (now (s .entry)) ⌝ }
+{
+    let mut i = s.len();
+    let mut w = 0;
+    while 0 < i {
+        i -= 1;
+        w = w * 256 + wide(s[i]);
+    }
+    w
+}
+
+// Eight bytes from index i on as a number, the least significant first.
+fn word_at(s: &[u8], i: usize) -> u64
     requires { ⌜ i + 8 ≤ length (now s) ⌝ }
-    ensures { λ r. ⌜ r ≡ wordAt (now (s .entry)) i ⌝ }
+    ensures { λ r. ⌜ r ≡ word (take 8 (drop i (now (s .entry)))) ⌝ }
 {
     wide(s[i])
         + wide(s[i + 1]) * 0x100
@@ -37,19 +51,17 @@ fn word(s: &[u8], i: usize) -> u64
         + wide(s[i + 7]) * 0x100_0000_0000_0000
 }
 
-// Bytes XORed into the state from byte `at` on, one by one.
-fn xor_bytes(lanes: &mut [u64; 25], at: usize, s: &[u8])
-    requires { ⌜ at + length (now s) ≤ 200 ⌝ }
+// Bytes XORed into the state from byte `at` on, within one lane.
+fn xor_lane(lanes: &mut [u64; 25], at: usize, s: &[u8])
+    requires { ⌜ (at < 200) × (at % 8 + length (now s) ≤ 8) ⌝ }
     ensures { λ _. ⌜ now (lanes .exit) ≡ puts xorByte (now (lanes .entry)) at (now (s .entry)) ⌝ }
 {
-    let mut i = 0;
-    while i < s.len() {
-        xor_byte(lanes, at + i, s[i]);
-        i += 1;
-    }
+    let q = at / 8;
+    let shift = 8 * (at % 8);
+    lanes[q] = lanes[q] ^ (word_of(s) << shift);
 }
 
-// The same from the start of lane `first` on, in words, and what is left of the bytes one by one.
+// The same from the start of lane `first` on: whole lanes, and what is left of the bytes.
 fn xor_words(lanes: &mut [u64; 25], first: usize, s: &[u8])
     requires { ⌜ 8 * first + length (now s) ≤ 200 ⌝ }
     ensures { λ _. ⌜ now (lanes .exit) ≡ puts xorByte (now (lanes .entry)) (8 * first) (now (s .entry)) ⌝ }
@@ -57,23 +69,25 @@ fn xor_words(lanes: &mut [u64; 25], first: usize, s: &[u8])
     let mut q = first;
     let mut i = 0;
     while 8 <= s.len() - i {
-        lanes[q] = lanes[q] ^ word(s, i);
+        lanes[q] = lanes[q] ^ word_at(s, i);
         q += 1;
         i += 8;
     }
-    xor_bytes(lanes, 8 * q, &s[i..]);
+    if i < s.len() {
+        xor_lane(lanes, 8 * q, &s[i..]);
+    }
 }
 
 // The same from any byte on.
 pub fn xor_part(lanes: &mut [u64; 25], at: usize, s: &[u8])
-    requires { ⌜ at + length (now s) ≤ 200 ⌝ }
+    requires { ⌜ (at < 200) × (at + length (now s) ≤ 200) ⌝ }
     ensures { λ _. ⌜ now (lanes .exit) ≡ puts xorByte (now (lanes .entry)) at (now (s .entry)) ⌝ }
 {
     let h = (8 - at % 8) % 8;
     if s.len() <= h {
-        xor_bytes(lanes, at, s);
+        xor_lane(lanes, at, s);
     } else {
-        xor_bytes(lanes, at, &s[..h]);
+        xor_lane(lanes, at, &s[..h]);
         xor_words(lanes, (at + h) / 8, &s[h..]);
     }
 }

@@ -1,9 +1,10 @@
+use native.Mathlib.Omega.{arith}
+use Rattle.sponge.proofs.Words.{word-sum}
 use borrow.Author.Needs.{needs}
-use Rattle.sponge.specs.Words.{wordAt}
-use Rattle.sponge.proofs.block.word.Statement.{statement}
-use Rattle.sponge.proofs.block.word.Tie as tie
-use Rattle.sponge.proofs.block.word.Reads as reads
-use Rattle.sponge.proofs.block.word.Lts as lts
+use Rattle.sponge.proofs.block.word_at.Statement.{statement}
+use Rattle.sponge.proofs.block.word_at.Tie as tie
+use Rattle.sponge.proofs.block.word_at.Reads as reads
+use Rattle.sponge.proofs.block.word_at.Lts as lts
 use Rattle.sponge.proofs.block.wide.Reads as wide-reads
 
 shared-slice-read-wide : tie.Need-shared-slice-read-wide
@@ -118,11 +119,10 @@ add-result-7 : tie.Need-add-result-7
 add-result-7 c = search needs
 
 returns : tie.Need-returns
-unfolding wordAt
-returns c = search needs
+returns c = let a = c .before .before .before .before .before .before .before .before .before .before .before .before .before .before .before .before .before .args in omega (arith, word-sum (a .s .now) (a .i) (c .before .before .before .before .before .before .before .before .before .before .before .before .before .before .before .before .before .pre))
 
-pub word-spec : {M : Type 1} → statement M
-word-spec =
+pub word-at-spec : {M : Type 1} → statement M
+word-at-spec =
     tie.close
     (tie.spec
     shared-slice-read-wide
