@@ -10,7 +10,7 @@ use native.Mathlib.Omega.{arith}
 use lib.ListN.{length, length-append}
 use lib.Dec.{eqb, leb}
 use borrow.Author.Tests.{eq-eqb, le-leb}
-use Rattle.sponge.specs.Transcript.{Call, Call.absorb, Call.squeeze, Rules, Reply, reply, statusOf}
+use Rattle.sponge.specs.Transcript.{Call, Call.absorb, Call.squeeze, Phase, phaseNumber, Transcript, Rules, Reply, statusOf, given, written, transcribe}
 use Rattle.sponge.specs.Runs.{Run, Machine, worked, bytesOut, runStatus, perform, runOf}
 use Rattle.sponge.specs.Streaming.{told, ran}
 use Rattle.sponge.proofs.Streaming.{nothing, Laws, streaming}
@@ -18,25 +18,43 @@ use Rattle.sponge.proofs.Streaming.{nothing, Laws, streaming}
 -- ---- of every machine, whatever the run
 
 module _ {S A : Type 0} (U : Rules A) (M : Machine S A) where
+  -- a call by its status
+  pub perform-done : (r : Run S) (c : Call A) → runStatus U M r c ≡ 0 → perform U M r c ≡ record { status = 0; bytes = bytesOut U M r c; left = worked U M r c }
+  unfolding perform
+  perform-done r c e = rw e
+
+  pub perform-refused : (r : Run S) (c : Call A) (n : ℕ) → runStatus U M r c ≡ suc n → perform U M r c ≡ record { status = suc n; bytes = []; left = r }
+  unfolding perform
+  perform-refused r c n e = rw e
+
+  pub perform-status : (r : Run S) (c : Call A) → perform U M r c .status ≡ runStatus U M r c
+  perform-status r c = by (runStatus U M r c) refl
+    where
+      by : (v : ℕ) → runStatus U M r c ≡ v → perform U M r c .status ≡ v
+      by zero e = ap (λ (y : Reply (Run S)). y .status) (perform-done r c e)
+      by (suc v) e = ap (λ (y : Reply (Run S)). y .status) (perform-refused r c v e)
+
   -- a refused call hands back the run that it got, and gives no byte
   pub refused : (r : Run S) (c : Call A) (n : ℕ) → perform U M r c .status ≡ suc n → (perform U M r c .left ≡ r) × (perform U M r c .bytes ≡ [])
-  unfolding perform
-  refused r c n e = by (runStatus U M r c) e
-    where
-      by : (v : ℕ) → reply v (bytesOut U M r c) (worked U M r c) r .status ≡ suc n
-          → (reply v (bytesOut U M r c) (worked U M r c) r .left ≡ r) × (reply v (bytesOut U M r c) (worked U M r c) r .bytes ≡ [])
-      by zero e = absurd (omega arith)
-      by (suc v) e = (refl, refl)
+  refused r c n e =
+      let p = perform-refused r c n (sym (perform-status r c) ∙ e) in
+      (ap (λ (y : Reply (Run S)). y .left) p, ap (λ (y : Reply (Run S)). y .bytes) p)
 
   -- an absorb with status 0 grew the total by the piece's length
   pub absorb-grows : (r : Run S) (p : List ℕ) → perform U M r (absorb p) .status ≡ 0 → perform U M r (absorb p) .left .absorbed ≡ r .absorbed + length p
-  unfolding perform
-  absorb-grows r p e = by (runStatus U M r (absorb p)) e
-    where
-      by : (v : ℕ) → reply v (bytesOut U M r (absorb p)) (worked U M r (absorb p)) r .status ≡ 0
-          → reply v (bytesOut U M r (absorb p)) (worked U M r (absorb p)) r .left .absorbed ≡ r .absorbed + length p
-      by zero e = refl
-      by (suc v) e = absurd (omega arith)
+  absorb-grows r p e = ap (λ (y : Reply (Run S)). y .left .absorbed) (perform-done r (absorb p) (sym (perform-status r (absorb p)) ∙ e))
+
+-- the transcript likewise
+module _ {A : Type 0} (U : Rules A) where
+  pub transcribe-done : (t : Transcript A) (c : Call A) → statusOf U (phaseNumber (t .phase)) (length (t .absorbed)) (t .squeezed) c ≡ 0
+      → transcribe U t c ≡ record { status = 0; bytes = given U t c; left = written U t c }
+  unfolding transcribe
+  transcribe-done t c e = rw e
+
+  pub transcribe-refused : (t : Transcript A) (c : Call A) (n : ℕ) → statusOf U (phaseNumber (t .phase)) (length (t .absorbed)) (t .squeezed) c ≡ suc n
+      → transcribe U t c ≡ record { status = suc n; bytes = []; left = t }
+  unfolding transcribe
+  transcribe-refused t c n e = rw e
 
 -- what a machine owes beside `Laws`: a run that 5 does not refuse is one after each call with status 0
 abbrev pub Stays : {S A : Type 0} → Rules A → Machine S A → Type 0

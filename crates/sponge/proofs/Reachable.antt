@@ -11,9 +11,10 @@ use lib.ListN.{length, replicate, length-replicate}
 use lib.Dec.{eqb, leb}
 use borrow.Author.Tests.{le-leb}
 use Rattle.sponge.specs.Status.{unreachable}
-use Rattle.sponge.specs.Transcript.{Call, Call.absorb, Call.finalize, Call.squeeze, Phase, Phase.absorbing, Phase.squeezing, phaseNumber, Transcript, Rules, reply, statusOf, transcribe}
-use Rattle.sponge.specs.Runs.{Run, Machine, worked, bytesOut, runStatus, perform, runOf}
+use Rattle.sponge.specs.Transcript.{Call, Call.absorb, Call.finalize, Call.squeeze, Phase, Phase.absorbing, Phase.squeezing, phaseNumber, Transcript, Rules, statusOf, transcribe}
+use Rattle.sponge.specs.Runs.{Run, Machine, perform, runOf}
 use Rattle.sponge.specs.Streaming.{told, ran}
+use Rattle.sponge.proofs.Joining.{perform-status}
 use Rattle.sponge.proofs.Streaming.{Fits, Laws, streaming, told-fits}
 
 -- ---- every transcript within the limits, finalized with what is taken, is told by a list of calls
@@ -115,20 +116,12 @@ module _ {S A : Type 0} (U : Rules A) (M : Machine S A) (other : (a : A) → U .
   status-other h n k (finalize a) e = argument-other (eqb h 0) a e
   status-other h n k (squeeze j) e = limit-other (leb (k + j) (U .outputLimit)) (eqb h 1) 6 3 (λ e. omega arith) (λ e. omega arith) e
 
-  reply-status : (r : Run S) (c : Call A) → perform U M r c .status ≡ runStatus U M r c
-  unfolding perform
-  reply-status r c = by (runStatus U M r c)
-    where
-      by : (v : ℕ) → reply v (bytesOut U M r c) (worked U M r c) r .status ≡ v
-      by zero = refl
-      by (suc v) = refl
-
   pub status-five : (r : Run S) (c : Call A) → perform U M r c .status ≡ unreachable → M .reachable r ≡ false
-  status-five r c e = by (M .reachable r) (sym (reply-status r c) ∙ e)
+  status-five r c e = by (M .reachable r) (sym (perform-status U M r c) ∙ e)
     where
       by : (t : Bool) → cond t (statusOf U (r .phase) (r .absorbed) (r .squeezed) c) unreachable ≡ unreachable → t ≡ false
       by true e = absurd (status-other (r .phase) (r .absorbed) (r .squeezed) c e)
       by false e = refl
 
   pub five-status : (r : Run S) (c : Call A) → M .reachable r ≡ false → perform U M r c .status ≡ unreachable
-  five-status r c e = reply-status r c ∙ rw e
+  five-status r c e = perform-status U M r c ∙ rw e

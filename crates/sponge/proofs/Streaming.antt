@@ -118,6 +118,12 @@ module _ {S A : Type 0} (U : Rules A) (M : Machine S A) (L : Laws U M) where
         extends = rw e (append-nil (outputSo t));
       }
 
+  -- a call on the run that a transcript within the limits tells of
+  pub performs : (t : Transcript A) (c : Call A) → Fits U t
+      → perform U M (runOf U M t) c ≡ record { status = transcribe U t c .status; bytes = transcribe U t c .bytes; left = runOf U M (transcribe U t c .left) }
+  unfolding runReply
+  performs t c h = one t c h .reply-is
+
   -- ---- every list of calls
 
   record Same (t : Transcript A) (cs : List (Call A)) : Type 0 where

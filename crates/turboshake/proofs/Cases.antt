@@ -13,10 +13,11 @@ use Rattle.sponge.specs.Waiting.{positionAfter}
 use Rattle.keccak.specs.Permutation.{permuted}
 use Rattle.sponge.specs.Model.{Sponge, valid, Outcome, absorbCall, padCall, squeezeCall, squeezeOutput}
 use Rattle.sponge.specs.Transcript.{Call, Call.absorb, Call.finalize, Call.squeeze}
-use Rattle.sponge.specs.Runs.{worked, bytesOut, runStatus, perform}
+use Rattle.sponge.specs.Runs.{worked, bytesOut, runStatus}
 use Rattle.sponge.specs.Runs as runs
 use Rattle.sponge.proofs.Valid.{absorb-done, pad-done, squeeze-done}
 use Rattle.sponge.proofs.Valid.{output-done as valid-output}
+use Rattle.sponge.proofs.Joining.{perform-done, perform-refused}
 use Rattle.sponge.proofs.Reachable.{Shape}
 use Rattle.turboshake.specs.Model.{limit, domainStatus, rules, reachable, machine, seen, held, Answer, answerOf, outputOf}
 use Rattle.turboshake.specs.declared.Run.{Run}
@@ -87,24 +88,24 @@ module _ (rate : ℕ) (r : Run) where
   -- ---- the answer, by the status
 
   pub answer-refused : (c : Call ℕ) (n : ℕ) → status c ≡ suc n → record { status = suc n; run = r } ≡ answerOf rate r c
-  unfolding status answerOf perform
-  answer-refused c n e = rw e
+  unfolding status answerOf
+  answer-refused c n e = rw (perform-refused (rules rate) (machine rate) (seen r) c n e)
 
   pub answer-other : (c : Call ℕ) (m : ℕ) → (m ≡ 0 → ⊥) → status c ≡ m → record { status = m; run = r } ≡ answerOf rate r c
   answer-other c zero h e = absurd (h refl)
   answer-other c (suc m) h e = answer-refused c m e
 
   pub answer-done : (c : Call ℕ) → status c ≡ 0 → record { status = 0; run = held (worked (rules rate) (machine rate) (seen r) c) } ≡ answerOf rate r c
-  unfolding status answerOf perform
-  answer-done c e = rw e
+  unfolding status answerOf
+  answer-done c e = rw (perform-done (rules rate) (machine rate) (seen r) c e)
 
   pub output-refused : (out : List ℕ) (n : ℕ) → status (squeeze (length out)) ≡ suc n → out ≡ outputOf rate r out
-  unfolding status outputOf perform
-  output-refused out n e = rw e
+  unfolding status outputOf
+  output-refused out n e = rw (perform-refused (rules rate) (machine rate) (seen r) (squeeze (length out)) n e)
 
   pub output-done : (out : List ℕ) → status (squeeze (length out)) ≡ 0 → bytesOut (rules rate) (machine rate) (seen r) (squeeze (length out)) ≡ outputOf rate r out
-  unfolding status outputOf perform
-  output-done out e = rw e
+  unfolding status outputOf
+  output-done out e = rw (perform-done (rules rate) (machine rate) (seen r) (squeeze (length out)) e)
 
 -- ---- what the sponge's call leaves is the answer
 

@@ -1,4 +1,5 @@
 pub mod Laws
 pub mod Streaming
+pub mod Pieces
 mod Cases
 mod OneGo
