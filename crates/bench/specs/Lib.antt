@@ -1,2 +1,3 @@
 -- What the benchmarks' exports do.
 pub mod Repeat
+pub mod Pieces

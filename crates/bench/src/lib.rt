@@ -1,6 +1,16 @@
 // What the benchmarks of bench/ call through the C calling convention.
 ghost use mathlib.Core.Path.{_≡_};
+ghost use Prim.Native.Nat.{min};
+ghost use lib.ListN.{length};
+ghost use Rattle.turboshake.specs.Model.{hashStatus, hashOutput};
+ghost use Rattle.bench.specs.Pieces.{piecesStatus, piecesOutput};
 ghost use Rattle.bench.specs.Repeat.{repeated};
+use turboshake::TurboShake128;
+
+const DOMAIN: u8 = 0x1F;
+
+// Pieces of no bytes.
+const BAD_STEP: u8 = 9;
 
 // Permutes the lanes `count` times.
 #[no_mangle]
@@ -15,4 +25,46 @@ pub extern "C" fn bench_permute(lanes: &mut [u64; 25], count: usize)
         i += 1;
     }
     *lanes = a;
+}
+
+fn least(x: usize, y: usize) -> usize
+    ensures { λ r. ⌜ r ≡ min x y ⌝ }
+{
+    if x < y { x } else { y }
+}
+
+// TurboSHAKE128 of a message, with D = 1F, absorbed in pieces of `step` bytes and squeezed at once.
+#[no_mangle]
+pub extern "C" fn bench_pieces(message: &[u8], step: usize, out: &mut [u8]) -> u8
+    ensures { λ r. ⌜ r ≡ piecesStatus step (length (now (message .entry))) (length (now (out .entry))) ⌝ }
+    ensures { λ r. ⌜ now (out .exit) ≡ piecesOutput step (now (message .entry)) (now (out .entry)) ⌝ }
+{
+    if step == 0 {
+        return BAD_STEP;
+    }
+    let mut hasher = TurboShake128::fresh();
+    let mut i = 0;
+    while i < message.len() {
+        let k = least(step, message.len() - i);
+        let absorbed = hasher.absorb(&message[i..i + k]);
+        if absorbed.status != sponge::status::DONE {
+            return absorbed.status;
+        }
+        let next = absorbed.hasher;
+        hasher = next;
+        i += k;
+    }
+    let finalized = hasher.finalize(DOMAIN);
+    let last = finalized.hasher;
+    let squeezed = last.squeeze(out);
+    squeezed.status
+}
+
+// The same in one go.
+#[no_mangle]
+pub extern "C" fn bench_one_go(message: &[u8], out: &mut [u8]) -> u8
+    ensures { λ r. ⌜ r ≡ hashStatus (length (now (message .entry))) 0x1F (length (now (out .entry))) ⌝ }
+    ensures { λ r. ⌜ now (out .exit) ≡ hashOutput 168 (now (message .entry)) 0x1F (now (out .entry)) ⌝ }
+{
+    TurboShake128::hash(message, DOMAIN, out)
 }
