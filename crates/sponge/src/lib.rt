@@ -13,6 +13,7 @@ ghost use Rattle.keccak.specs.Permutation.{permuted};
 ghost use Rattle.sponge.specs.Waiting.{At, ready};
 ghost use Rattle.sponge.specs.Model.{Sponge, absorbBytes, squeezeBytes, afterBytes, valid, Outcome};
 ghost use Rattle.sponge.specs.Model as model;
+ghost use Rattle.sponge.specs.Status.{unreachable};
 
 // What a call answers: its status and the position that it leaves.
 pub struct Answer {
@@ -31,6 +32,16 @@ fn is_valid(rate: usize, position: usize) -> bool
         return false;
     }
     position <= rate
+}
+
+// What is no rate or no position is left as it is.
+fn refused(position: usize) -> Answer
+    ensures { λ r. ⌜ r ≡ record { status = unreachable; position = position } ⌝ }
+{
+    Answer {
+        status: status::UNREACHABLE,
+        position,
+    }
 }
 
 fn least(x: usize, y: usize) -> usize
@@ -97,9 +108,9 @@ fn pad_block(lanes: &mut [u64; 25], position: usize, rate: usize, last: u8)
     let at = next_position(lanes, position, rate);
     block::xor_byte(lanes, at, last);
     block::xor_byte(lanes, rate - 1, 0x80);
-    let block = *lanes;
-    let next = keccak::permute(block);
-    *lanes = next;
+    let padded = *lanes;
+    let last_block = keccak::permute(padded);
+    *lanes = last_block;
 }
 
 // Absorbs a piece.
@@ -107,10 +118,7 @@ pub fn absorb(lanes: &mut [u64; 25], position: usize, rate: usize, piece: &[u8])
     ensures { λ r. ⌜ record { status = r .status; state = record { value = now (lanes .exit); position = r .position } } ≡ model.absorbCall permuted rate (record { value = now (lanes .entry); position = position }) (now (piece .entry)) ⌝ }
 {
     if !is_valid(rate, position) {
-        return Answer {
-            status: status::UNREACHABLE,
-            position,
-        };
+        return refused(position);
     }
     let after = absorb_blocks(lanes, position, rate, piece);
     Answer {
@@ -124,10 +132,7 @@ pub fn pad(lanes: &mut [u64; 25], position: usize, rate: usize, last: u8) -> Ans
     ensures { λ r. ⌜ record { status = r .status; state = record { value = now (lanes .exit); position = r .position } } ≡ model.padCall permuted rate (record { value = now (lanes .entry); position = position }) last ⌝ }
 {
     if !is_valid(rate, position) {
-        return Answer {
-            status: status::UNREACHABLE,
-            position,
-        };
+        return refused(position);
     }
     pad_block(lanes, position, rate, last);
     Answer {
@@ -142,14 +147,11 @@ pub fn squeeze(lanes: &mut [u64; 25], position: usize, rate: usize, out: &mut [u
     ensures { λ r. ⌜ now (out .exit) ≡ model.squeezeOutput permuted rate (record { value = now (lanes .entry); position = position }) (now (out .entry)) ⌝ }
 {
     if !is_valid(rate, position) {
-        return Answer {
-            status: status::UNREACHABLE,
-            position,
-        };
+        return refused(position);
     }
-    let after = squeeze_blocks(lanes, position, rate, out);
+    let read = squeeze_blocks(lanes, position, rate, out);
     Answer {
         status: status::DONE,
-        position: after,
+        position: read,
     }
 }

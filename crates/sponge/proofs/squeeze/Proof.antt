@@ -4,28 +4,34 @@ use lib.ListN.{length}
 use borrow.Author.Needs.{needs}
 use borrow.Author.Tests.{not-true, not-false}
 use Rattle.keccak.specs.Permutation.{permuted}
-use Rattle.sponge.specs.Model.{Sponge, valid}
+use Rattle.sponge.specs.Model.{Sponge, valid, Outcome}
+use Rattle.sponge.specs.declared.Answer.{Answer}
 use Rattle.sponge.proofs.Valid.{valid-fits, squeeze-refused, squeeze-done, output-refused, output-done}
 use Rattle.sponge.proofs.squeeze.Statement.{statement}
 use Rattle.sponge.proofs.squeeze.Tie as tie
 use Rattle.sponge.proofs.squeeze.Reads as reads
 use Rattle.sponge.proofs.squeeze.Lts as lts
 use Rattle.sponge.proofs.is_valid.Reads as is-valid-reads
+use Rattle.sponge.proofs.refused.Reads as refused-reads
 use Rattle.sponge.proofs.squeeze_blocks.Reads as squeeze-blocks-reads
 
 -- past the test
 was : (c : tie.Else1) → valid (c .before .before .before .args .rate) (c .before .before .before .args .position) ≡ true
 was c = sym (c .before .is-valid .ensures) ∙ not-false _ (c .if1 .left)
 
+refused-requires : tie.Need-refused-requires
+refused-requires c κs = search needs
+
 is-valid-requires : tie.Need-is-valid-requires
 is-valid-requires c κs = search needs
 
 returns : tie.Need-returns
 returns c =
-    let a = c .before .before .before .args in
+    let a = c .before .before .before .before .args in
     let s : Sponge = record { value = a .lanes .now; position = a .position } in
-    let e = sym (c .before .is-valid .ensures) ∙ not-true _ (c .if1 .taken) in
-    (sym (squeeze-refused permuted (a .rate) s e (length (a .out .now))), sym (output-refused permuted (a .rate) s e (a .out .now)))
+    let e = sym (c .before .before .is-valid .ensures) ∙ not-true _ (c .before .if1 .taken) in
+    let o = ap {B = Outcome} (λ (x : Answer). record { status = x .status; state = record { value = a .lanes .now; position = x .position } }) (c .refused .ensures) in
+    (o ∙ sym (squeeze-refused permuted (a .rate) s e (length (a .out .now))), sym (output-refused permuted (a .rate) s e (a .out .now)))
 
 squeeze-blocks-requires : tie.Need-squeeze-blocks-requires
 squeeze-blocks-requires c κs = valid-fits _ _ (was (c .before .before))
@@ -45,4 +51,4 @@ returns-2 c =
 
 pub squeeze-spec : {M : Type 1} → statement M
 squeeze-spec =
-    tie.close (tie.spec is-valid-requires returns squeeze-blocks-requires same-length returns-2)
+    tie.close (tie.spec is-valid-requires refused-requires returns squeeze-blocks-requires same-length returns-2)
