@@ -1,0 +1,98 @@
+// The lines that are written, each put together in a text as long as the longest.
+//
+// The line of a run is 479 bytes: two digits, 28 numbers of a space and 16 digits, and a line end.
+ghost use Prim.Native.Nat.{_+_, _*_, _<_, _≤_};
+ghost use lib.ListN.{length};
+use libc::STDOUT_FILENO;
+use turboshake::Run;
+
+fn digit(d: u8) -> u8
+    requires { ⌜ d < 16 ⌝ }
+{
+    if d < 10 { b'0' + d } else { b'a' - 10 + d }
+}
+
+// A store of its own: what a call leaves of the text's length is known to the caller, who needs no proof file then.
+fn put(text: &mut [u8], at: usize, character: u8)
+    requires { ⌜ at < length (now text) ⌝ }
+{
+    text[at] = character;
+}
+
+// Puts a byte's two digits into the text.
+fn put_byte(text: &mut [u8], at: usize, byte: u8)
+    requires { ⌜ at + 1 < length (now text) ⌝ }
+{
+    put(text, at, digit(byte / 16));
+    put(text, at + 1, digit(byte % 16));
+}
+
+// Puts the bytes' digits into the text from `at` on.
+fn put_bytes(text: &mut [u8], at: usize, bytes: &[u8])
+    requires { ⌜ at + 2 * length (now bytes) ≤ length (now text) ⌝ }
+{
+    let mut i: usize = 0;
+    while i < bytes.len() {
+        put_byte(text, at + 2 * i, bytes[i]);
+        i += 1;
+    }
+}
+
+// Puts number k of a run's line.
+fn put_number(text: &mut [u8], k: usize, v: u64)
+    requires { ⌜ (k < 28) × (479 ≤ length (now text)) ⌝ }
+{
+    let at = 2 + 17 * k;
+    let bytes = [
+        ((v >> 56) % 256) as u8,
+        ((v >> 48) % 256) as u8,
+        ((v >> 40) % 256) as u8,
+        ((v >> 32) % 256) as u8,
+        ((v >> 24) % 256) as u8,
+        ((v >> 16) % 256) as u8,
+        ((v >> 8) % 256) as u8,
+        (v % 256) as u8,
+    ];
+    put(text, at, b' ');
+    put_bytes(text, at + 1, &bytes);
+}
+
+fn put_lanes(text: &mut [u8], lanes: [u64; 25])
+    requires { ⌜ 479 ≤ length (now text) ⌝ }
+{
+    let mut i: usize = 0;
+    while i < 25 {
+        put_number(text, 3 + i, lanes[i]);
+        i += 1;
+    }
+}
+
+// Writes the phase, the bytes absorbed, the bytes squeezed, the position and the lanes.
+pub fn write_run(run: Run, text: &mut [u8]) -> bool
+    requires { ⌜ 479 ≤ length (now text) ⌝ }
+{
+    let lanes = run.lanes;
+    put_byte(text, 0, run.phase);
+    put_number(text, 0, run.absorbed);
+    put_number(text, 1, run.squeezed);
+    put_number(text, 2, run.position as u64);
+    put_lanes(text, lanes);
+    put(text, 478, b'\n');
+    io::write_all(STDOUT_FILENO, &text[0..479])
+}
+
+pub fn write_status(status: u8) -> bool {
+    io::print_decimal(STDOUT_FILENO, status as u64) && io::write_all(STDOUT_FILENO, b"\n")
+}
+
+// Writes the status, a space and the bytes.
+pub fn write_output(status: u8, out: &[u8], text: &mut [u8]) -> bool
+    requires { ⌜ 2 * length (now out) + 2 ≤ length (now text) ⌝ }
+{
+    let end = 2 * out.len() + 1;
+    put(text, 0, b' ');
+    put_bytes(text, 1, out);
+    put(text, end, b'\n');
+    io::print_decimal(STDOUT_FILENO, status as u64)
+        && io::write_all(STDOUT_FILENO, &text[0..end + 1])
+}

@@ -1,0 +1,125 @@
+// Reads records from standard input, does one call for each, and writes one line for each. It decides nothing: every status and
+// every byte is the library's.
+//
+// A record is one byte op, four bytes n and n bytes of payload, numbers most significant first. R has no payload: n is the number
+// of bytes wanted, and they go into a buffer that holds A5 in every byte.
+//
+//   N  1 byte function (0 TurboSHAKE128, 1 TurboSHAKE256)       a fresh run in hand                  fresh
+//   A  the piece                                                absorb                               status
+//   F  1 byte domain byte                                       finalize                             status
+//   R                                                           squeeze                              status, the buffer
+//   S  1 byte field, 8 bytes value                              writes a field of the run in hand    set
+//   D                                                           no call                              the run in hand
+//   T  1 byte function, 1 byte domain byte, 4 bytes L, message  L bytes in one go                    as R
+//
+// The input's end before a record ends the program. Any other record, or one that does not fit: `bad record`, and the end.
+mod calls;
+mod field;
+mod line;
+mod number;
+mod session;
+
+ghost use Prim.Native.Nat.{_+_, _*_, _≤_};
+ghost use lib.ListN.{length};
+use libc::STDIN_FILENO;
+use session::Session;
+
+// The records, but R, that are for the run in hand.
+fn answer_run(session: Session, op: u8, payload: &[u8], text: &mut [u8]) -> Session
+    requires { ⌜ 479 ≤ length (now text) ⌝ }
+{
+    if !session.has_run {
+        return session::bad_record(session);
+    }
+    match op {
+        b'A' => session::absorb(session, payload),
+        b'F' => session::finalize(session, payload),
+        b'S' => session::set(session, payload),
+        b'D' => session::dump(session, payload, text),
+        _ => session::bad_record(session),
+    }
+}
+
+// R: `out` is as long as what is asked.
+fn answer_squeeze(session: Session, out: &mut [u8], text: &mut [u8]) -> Session
+    requires { ⌜ 2 * length (now out) + 2 ≤ length (now text) ⌝ }
+{
+    if !session.has_run {
+        return session::bad_record(session);
+    }
+    session::squeeze(session, out, text)
+}
+
+fn answer(session: Session, op: u8, payload: &[u8], out: &mut [u8], text: &mut [u8]) -> Session
+    requires { ⌜ 262144 ≤ length (now out) ⌝ }
+    requires { ⌜ 524290 ≤ length (now text) ⌝ }
+{
+    match op {
+        b'N' => session::fresh(session, payload),
+        b'T' => session::one_go(session, payload, out, text),
+        _ => answer_run(session, op, payload, text),
+    }
+}
+
+// Reads a payload as long as the buffer, and does the call.
+fn answer_payload(
+    session: Session,
+    op: u8,
+    payload: &mut [u8],
+    out: &mut [u8],
+    text: &mut [u8],
+) -> Session
+    requires { ⌜ 262144 ≤ length (now out) ⌝ }
+    requires { ⌜ 524290 ≤ length (now text) ⌝ }
+{
+    if io::read_full(STDIN_FILENO, payload) < payload.len() {
+        return session::bad_record(session);
+    }
+    answer(session, op, payload, out, text)
+}
+
+fn answer_record(session: Session, payload: &mut [u8], out: &mut [u8], text: &mut [u8]) -> Session
+    requires { ⌜ 262144 ≤ length (now payload) ⌝ }
+    requires { ⌜ 262144 ≤ length (now out) ⌝ }
+    requires { ⌜ 524290 ≤ length (now text) ⌝ }
+{
+    let mut head = [0u8; 5];
+    let got = io::read_full(STDIN_FILENO, &mut head);
+    if got == 0 {
+        return session::end(session);
+    }
+    if got < 5 {
+        return session::bad_record(session);
+    }
+    let op = head[0];
+    let asked = number::of_four(&head, 1);
+    if session::MOST < asked {
+        return session::bad_record(session);
+    }
+    let n = asked as usize;
+    if op == b'R' {
+        return answer_squeeze(session, &mut out[0..n], text);
+    }
+    answer_payload(session, op, &mut payload[0..n], out, text)
+}
+
+// A proved loop has to end, and nothing says that the input does: the turns are counted down from a number that no run uses up.
+fn replay(payload: &mut [u8], out: &mut [u8], text: &mut [u8])
+    requires { ⌜ 262144 ≤ length (now payload) ⌝ }
+    requires { ⌜ 262144 ≤ length (now out) ⌝ }
+    requires { ⌜ 524290 ≤ length (now text) ⌝ }
+{
+    let mut session = session::begin();
+    let mut turns = u64::MAX;
+    while turns > 0 && session.is_going {
+        session = answer_record(session, payload, out, text);
+        turns -= 1;
+    }
+}
+
+fn main() {
+    let mut payload = [0u8; 262144];
+    let mut out = [0u8; 262144];
+    let mut text = [0u8; 524290];
+    replay(&mut payload, &mut out, &mut text);
+}

@@ -1,0 +1,71 @@
+#!/usr/bin/env python3
+"""Writes crates/replay/stdin, a short list of calls, and crates/replay/stdout, the lines that the program `replay` must answer.
+
+Each status is written out here, by document 01's table; the bytes and the lanes are the second program's.
+"""
+from pathlib import Path
+
+import reference
+
+CRATE = Path(__file__).resolve().parent.parent / "crates/replay"
+LIMIT = 4_294_967_295
+DIGEST = reference.turboshake(168, b"abc", 0x1F, 37).hex()
+BLOCK = b"abc\x1f" + bytes(163) + b"\x80" + bytes(32)  # the whole state: abc, D and 80 in the block of 168 bytes
+CLOSED = reference.keccak_p(reference.state_of(BLOCK), 12)
+
+
+def record(op, payload=b"", n=None):
+    return op.encode() + (len(payload) if n is None else n).to_bytes(4, "big") + payload
+
+
+def field(number, value):
+    return record("S", bytes([number]) + value.to_bytes(8, "big"))
+
+
+def one_go(function, domain, size, message):
+    return record("T", bytes([function, domain]) + size.to_bytes(4, "big") + message)
+
+
+def run_line(phase, *numbers):
+    return f"{phase:02x} " + " ".join(f"{v:016x}" for v in numbers)
+
+
+SAMPLE = [
+    (record("N", b"\0"), "fresh"),
+    (record("D"), run_line(0, 0, 0, 0, *[0] * 25)),
+    (record("A", b"ab"), "0"),
+    (record("A", b""), "0"),
+    (record("A", b"c"), "0"),
+    (record("D"), run_line(0, 3, 0, 3, 0x636261, *[0] * 24)),
+    (record("R", n=4), "3 a5a5a5a5"),
+    (record("F", b"\x00"), "1"),
+    (record("F", b"\x1f"), "0"),
+    (record("F", b"\x1f"), "3"),
+    (record("A", b"d"), "3"),
+    (record("R", n=0), "0 "),
+    (record("R", n=32), "0 " + DIGEST[:64]),
+    (record("R", n=5), "0 " + DIGEST[64:]),
+    (record("D"), run_line(1, 3, 37, 37, *CLOSED)),
+    (one_go(0, 0x1F, 37, b"abc"), "0 " + DIGEST),
+    (one_go(1, 0x1F, 8, b""), "0 " + reference.turboshake(136, b"", 0x1F, 8).hex()),
+    (one_go(1, 0x80, 4, b"abc"), "1 a5a5a5a5"),
+    (one_go(1, 0x1F, 0, b"abc"), "7 "),
+    # one byte more than the most that are squeezed, and than the most that are absorbed
+    (field(2, LIMIT), "set"),
+    (field(3, (LIMIT - 1) % 168 + 1), "set"),
+    (record("R", n=1), "6 a5"),
+    (record("N", b"\1"), "fresh"),
+    (field(1, LIMIT), "set"),
+    (field(3, (LIMIT - 1) % 136 + 1), "set"),
+    (record("A", b"a"), "2"),
+    # no run that was reached has this position
+    (field(3, 0), "set"),
+    (record("A", b""), "5"),
+    (record("Z"), "bad record"),
+    # nothing is answered after that
+    (record("N", b"\0"), None),
+]
+
+if __name__ == "__main__":
+    (CRATE / "stdin").write_bytes(b"".join(data for data, _ in SAMPLE))
+    (CRATE / "stdout").write_text("".join(line + "\n" for _, line in SAMPLE if line is not None))
