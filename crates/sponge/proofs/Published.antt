@@ -124,13 +124,13 @@ module _ (P : List ℕ → List ℕ) (rate : ℕ) (pos : 0 < rate) where
   length-squeeze zero s = refl
   length-squeeze (suc n) s = ap suc (length-squeeze n (afterByte P rate s))
 
-  pub squeeze-in : (k : ℕ) (a : List ℕ) (i : ℕ) → i + k ≤ rate → squeezeBytes P rate k (record { value = a; position = i }) ≡ bytesFrom a i k
-  squeeze-in zero a i h = refl
-  squeeze-in (suc k) a i h = rw (ne-eqb i rate (omega arith)) (ap (λ (r : List ℕ). byteAt a i ∷ r) (squeeze-in k a (suc i) (omega arith)))
-
   pub after-in : (k : ℕ) (a : List ℕ) (i : ℕ) → i + k ≤ rate → afterBytes P rate k (record { value = a; position = i }) ≡ record { value = a; position = i + k }
   after-in zero a i h = rw add-zero
   after-in (suc k) a i h = rw (ne-eqb i rate (omega arith), after-in k a (suc i) (omega arith), suc-add, add-suc)
+
+  pub squeeze-in : (k : ℕ) (a : List ℕ) (i : ℕ) → i + k ≤ rate → squeezeBytes P rate k (record { value = a; position = i }) ≡ bytesFrom a i k
+  squeeze-in zero a i h = refl
+  squeeze-in (suc k) a i h = rw (ne-eqb i rate (omega arith)) (ap (λ (r : List ℕ). byteAt a i ∷ r) (squeeze-in k a (suc i) (omega arith)))
 
   squeeze-full : (k : ℕ) (a : List ℕ) → squeezeBytes P rate k (record { value = a; position = rate }) ≡ squeezeBytes P rate k (record { value = P a; position = 0 })
   squeeze-full zero a = refl

@@ -13,7 +13,7 @@ fn wide(x: u8) -> u64
     x as u64
 }
 
-pub fn xor_byte(lanes: &mut [u64; 25], at: usize, b: u8)
+pub(crate) fn xor_byte(lanes: &mut [u64; 25], at: usize, b: u8)
     requires { ⌜ at < 200 ⌝ }
     ensures { λ _. ⌜ now (lanes .exit) ≡ xorByte (now (lanes .entry)) at b ⌝ }
 {
@@ -79,7 +79,7 @@ fn xor_words(lanes: &mut [u64; 25], first: usize, s: &[u8])
 }
 
 // The same from any byte on.
-pub fn xor_part(lanes: &mut [u64; 25], at: usize, s: &[u8])
+pub(crate) fn xor_part(lanes: &mut [u64; 25], at: usize, s: &[u8])
     requires { ⌜ (at < 200) × (at + length (now s) ≤ 200) ⌝ }
     ensures { λ _. ⌜ now (lanes .exit) ≡ puts xorByte (now (lanes .entry)) at (now (s .entry)) ⌝ }
 {
@@ -145,7 +145,7 @@ fn read_words(lanes: &[u64; 25], first: usize, out: &mut [u8])
 }
 
 // The same from any byte on.
-pub fn read_part(lanes: &[u64; 25], at: usize, out: &mut [u8])
+pub(crate) fn read_part(lanes: &[u64; 25], at: usize, out: &mut [u8])
     requires { ⌜ at + length (now out) ≤ 200 ⌝ }
     ensures { λ _. ⌜ now (out .exit) ≡ bytesFrom (now (lanes .entry)) at (length (now (out .entry))) ⌝ }
 {

@@ -60,7 +60,7 @@ fn domain_status(domain: u8) -> u8
     sponge::status::DONE
 }
 
-pub fn fresh() -> Run
+pub(crate) fn fresh() -> Run
     ensures { λ r. ⌜ ((rate : ℕ) → r ≡ freshOf rate) ⌝ }
 {
     let lanes = [0u64; 25];
@@ -85,7 +85,7 @@ fn refused(status: u8, position: usize, phase: u8, absorbed: u64, squeezed: u64)
     }
 }
 
-pub fn absorb(
+pub(crate) fn absorb(
     rate: usize,
     lanes: &mut [u64; 25],
     position: usize,
@@ -135,7 +135,7 @@ pub fn absorb(
     }
 }
 
-pub fn finalize(
+pub(crate) fn finalize(
     rate: usize,
     lanes: &mut [u64; 25],
     position: usize,
@@ -179,7 +179,7 @@ pub fn finalize(
     }
 }
 
-pub fn squeeze(
+pub(crate) fn squeeze(
     rate: usize,
     lanes: &mut [u64; 25],
     position: usize,
@@ -249,7 +249,7 @@ fn hash_status(message: u64, domain: u8, asked: u64) -> u8
     sponge::status::DONE
 }
 
-pub fn hash(rate: usize, message: &[u8], domain: u8, out: &mut [u8]) -> u8
+pub(crate) fn hash(rate: usize, message: &[u8], domain: u8, out: &mut [u8]) -> u8
     requires { ⌜ (0 < rate) × (rate ≤ 200) ⌝ }
     ensures { λ r. ⌜ r ≡ hashStatus (length (now (message .entry))) domain (length (now (out .entry))) ⌝ }
     ensures { λ r. ⌜ now (out .exit) ≡ hashOutput rate (now (message .entry)) domain (now (out .entry)) ⌝ }
