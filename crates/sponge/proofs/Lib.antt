@@ -1,6 +1,7 @@
 -- Laws of the sponge. Crates above use `Published` (the fold computes the published sponge), `Position`, `Valid` (the calls' two cases),
 -- `Streaming`, `Joining` and `Reachable`; the rest serves the functions' own proofs.
 pub mod Xor
+pub mod XorByte
 pub mod Waiting
 pub mod Published
 pub mod Position
