@@ -1,15 +1,15 @@
 -- TurboSHAKE128's calls in a row, for the loop over pieces: from the contracts and the exported laws of the crate turboshake.
 -- Assumes nothing.
-use mathlib.Core.Path.{_≡_, refl, ap, sym, _∙_}
-use mathlib.Core.List.{List, [], _++_}
-use Prim.Native.Nat.{ℕ, zero, suc, _+_, _-_, _≤_, _<_}
+use mathlib.Core.Path.{_≡_, ap, sym, _∙_}
+use mathlib.Core.List.{List, _++_}
+use Prim.Native.Nat.{ℕ, _+_, _-_, _≤_, _<_}
 use native.Mathlib.Decide.{decLe}
 use native.Mathlib.Omega.{arith}
 use borrow.Author.Tests.{eq-eqb, ne-eqb, le-leb, lt-leb}
-use lib.ListN.{length, take, drop, length-drop}
+use lib.ListN.{length, take, drop}
 use lib.Seq.{length-take-le, take-add, take-all}
-use Rattle.sponge.specs.Transcript.{Call, Call.absorb, Call.finalize, Call.squeeze}
-use Rattle.turboshake.specs.Published.{turboshake, turboshake128}
+use Rattle.sponge.specs.Transcript.{Call.absorb, Call.finalize, Call.squeeze}
+use Rattle.turboshake.specs.Published.{turboshake128}
 use Rattle.turboshake.specs.Model.{limit, freshOf, Answer, answerOf, answer128, outputOf}
 use Rattle.turboshake.specs.declared.Run.{Run}
 use Rattle.turboshake.specs.declared.TurboShake128.{TurboShake128}

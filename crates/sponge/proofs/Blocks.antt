@@ -1,7 +1,7 @@
 -- The steps of the loops over blocks: a full block is permuted, then bytes go in or out that the block has room for.
 -- Assumes nothing.
-use mathlib.Core.Path.{_≡_, refl, sym, ap, _∙_}
-use mathlib.Core.List.{List, [], _∷_, _++_}
+use mathlib.Core.Path.{_≡_, sym, ap, _∙_}
+use mathlib.Core.List.{List, [], _∷_}
 use Prim.Native.Nat.{ℕ, zero, suc, _+_, _-_, _<_, _≤_}
 use native.Mathlib.Omega.{arith}
 use lib.ListN.{length, take, drop, length-drop, drop-of-length-le, take-append-drop}
@@ -9,7 +9,7 @@ use lib.Seq.{length-take-le, drop-drop}
 use borrow.Author.Tests.{eq-eqb, ne-eqb}
 use Rattle.sponge.specs.Cut.{puts}
 use Rattle.sponge.specs.Published.{xorByte, bytesFrom}
-use Rattle.sponge.specs.Waiting.{At, ready, step, steps}
+use Rattle.sponge.specs.Waiting.{ready}
 use Rattle.sponge.specs.Model.{Sponge, absorbBytes, pad, squeezeBytes, afterBytes}
 use Rattle.sponge.proofs.Waiting.{steps-append, steps-in}
 use Rattle.sponge.proofs.Published.{squeeze-in, after-in}

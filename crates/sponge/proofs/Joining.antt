@@ -10,7 +10,7 @@ use native.Mathlib.Omega.{arith}
 use lib.ListN.{length, length-append}
 use lib.Dec.{eqb, leb}
 use borrow.Author.Tests.{eq-eqb, le-leb}
-use Rattle.sponge.specs.Transcript.{Call, Call.absorb, Call.squeeze, Phase, phaseNumber, Transcript, Rules, Reply, statusOf, given, written, transcribe}
+use Rattle.sponge.specs.Transcript.{Call, Call.absorb, Call.squeeze, phaseNumber, Transcript, Rules, Reply, statusOf, given, written, transcribe}
 use Rattle.sponge.specs.Runs.{Run, Machine, worked, bytesOut, runStatus, perform, runOf}
 use Rattle.sponge.specs.Streaming.{told, ran}
 use Rattle.sponge.proofs.Streaming.{nothing, Laws, streaming}

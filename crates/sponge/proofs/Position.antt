@@ -1,15 +1,13 @@
 -- The position and the number of the piece in hand are told by the total, and what each byte and each full piece keep is kept.
 -- Assumes nothing.
-use mathlib.Core.Path.{_≡_, refl, sym, ap, _∙_}
+use mathlib.Core.Path.{_≡_, sym, ap, _∙_}
 use mathlib.Core.List.{List, [], _∷_}
-use mathlib.Core.Bool.{Bool, true, false}
 use Prim.Native.Nat.{ℕ, zero, suc, _+_, _*_, _/_, _%_, _<_}
 use native.Mathlib.Nat.{suc-add, add-suc, add-zero, zero-mod, zero-div, mod-lt, div-add-mod'}
 use native.Mathlib.Decide.{ℕ-discrete}
 use native.Mathlib.Omega.{arith}
 use lib.ListN.{length}
 use lib.Arith.{digits-mod, digits-div}
-use lib.Dec.{eqb}
 use borrow.Author.Tests.{eq-eqb, ne-eqb}
 use Rattle.sponge.specs.Waiting.{At, ready, step, steps, positionAfter, indexAfter}
 use Rattle.sponge.specs.Model.{Sponge, afterByte, afterBytes}

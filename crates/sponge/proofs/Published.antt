@@ -1,22 +1,20 @@
 -- The sponge byte by byte computes the published one, for every rate above 0.
 -- Assumes nothing.
 use mathlib.Core.Path.{_≡_, refl, sym, ap, _∙_, subst⁻¹}
-use mathlib.Core.List.{List, [], _∷_, _++_, append-nil, append-assoc}
-use Prim.Native.Nat.{ℕ, zero, suc, _+_, _-_, _*_, _/_, _%_, _≤_, _<_, zero-le}
+use mathlib.Core.List.{List, [], _∷_, _++_}
+use Prim.Native.Nat.{ℕ, zero, suc, _+_, _-_, _*_, _≤_, _<_, zero-le}
 use native.Mathlib.Nat.{zero-add, suc-add, add-suc, add-zero}
 use native.Mathlib.Decide.{decLe}
 use native.Mathlib.Omega.{arith}
-use lib.ListN.{length, take, drop, replicate, length-append, length-replicate, length-take, length-drop, take-append-drop}
-use lib.Seq.{take-append-le, take-append-add, take-all, length-take-le}
-use lib.Bits.{bitXor}
-use lib.Dec.{eqb}
+use lib.ListN.{length, take, drop, replicate, length-append, length-replicate}
+use lib.Seq.{take-append-le, take-append-add}
 use borrow.Author.Tests.{eq-eqb, ne-eqb}
 use Rattle.keccak.specs.State.{byteAt}
 use Rattle.sponge.specs.Cut.{ceil, pieces, cut, puts}
 use Rattle.sponge.specs.Published.{xorByte, bytesFrom, xorLast, zeroLanes, padded, absorbBlocks, squeezeBlocks, absorbed, sponge}
 use Rattle.sponge.specs.Waiting.{ready, step}
 use Rattle.sponge.specs.Model.{Sponge, fresh, absorbBytes, pad, squeezeByte, afterByte, squeezeBytes, afterBytes}
-use Rattle.sponge.proofs.Waiting.{Held, held, steps-append, steps-in, steps-full, walk, steps-pieces}
+use Rattle.sponge.proofs.Waiting.{Held, held, steps-append, steps-in, walk, steps-pieces}
 use Rattle.sponge.proofs.Xor.{xorByte-zero, xorByte-twice}
 
 -- ---- lists

@@ -11,7 +11,7 @@ use lib.Seq.{drop-at}
 use borrow.Author.Tests.{leb-true}
 use Rattle.sponge.specs.Transcript.{Call, Call.absorb, Call.finalize, Call.squeeze, Phase, Phase.absorbing, Phase.squeezing, phaseNumber, Transcript, freshTranscript, Rules, Reply, statusOf, outputOf, written, given, transcribe}
 use Rattle.sponge.specs.Runs.{Run, Machine, worked, bytesOut, perform, stateOf, runOf}
-use Rattle.sponge.specs.Streaming.{History, history, joined, Streaming}
+use Rattle.sponge.specs.Streaming.{history, joined, Streaming}
 
 pub cond-zero : (t : Bool) (n : ℕ) → cond t 0 (suc n) ≡ 0 → t ≡ true
 cond-zero true n e = refl

@@ -1,15 +1,15 @@
 -- The two cases of each call, a valid rate and position and others: what callers know of the calls' contracts.
 -- Assumes nothing.
-use mathlib.Core.Path.{_≡_, refl, sym, ap, _∙_}
+use mathlib.Core.Path.{_≡_, refl}
 use mathlib.Core.List.{List}
-use mathlib.Core.Bool.{Bool, true, false, _&&_, and-eq-true-iff}
+use mathlib.Core.Bool.{true, false, and-eq-true-iff}
 use Prim.Native.Nat.{ℕ, _≤_, _<_}
 use lib.ListN.{length, replicate}
 use lib.Dec.{leb}
 use borrow.Author.Tests.{leb-true, le-leb}
 use Rattle.sponge.specs.Published.{zeroLanes}
 use Rattle.sponge.specs.Status.{done, unreachable}
-use Rattle.sponge.specs.Model.{Sponge, absorbBytes, pad, squeezeBytes, afterBytes, valid, Outcome, absorbCall, padCall, squeezeCall, squeezeOutput}
+use Rattle.sponge.specs.Model.{Sponge, absorbBytes, pad, squeezeBytes, afterBytes, valid, absorbCall, padCall, squeezeCall, squeezeOutput}
 
 pub valid-fits : (rate position : ℕ) → valid rate position ≡ true → (position ≤ rate) × (0 < rate) × (rate ≤ 200)
 unfolding valid

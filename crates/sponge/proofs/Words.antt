@@ -1,10 +1,9 @@
 -- Bytes XORed into lanes one by one are words XORed into them at once.
 -- Assumes nothing.
-use mathlib.Core.Path.{_≡_, refl, sym, ap, _∙_}
+use mathlib.Core.Path.{_≡_, sym, ap, _∙_}
 use mathlib.Core.List.{List, [], _∷_, _++_}
 use Prim.Native.Nat.{ℕ, zero, suc, _+_, _-_, _*_, _/_, _%_, _^_, _<_, _≤_}
-use native.Mathlib.Nat.{lt-of-lt-of-le, zero-mul, zero-add, add-zero, add-suc, suc-add, add-comm, mul-one, mul-suc, mul-comm, mul-assoc, add-mul}
-use native.Mathlib.Numerals.{add-one}
+use native.Mathlib.Nat.{lt-of-lt-of-le, zero-mul, add-zero, add-suc, suc-add, add-comm, mul-one, mul-suc, mul-comm, mul-assoc, add-mul}
 use native.Mathlib.Decide.{decLt}
 use native.Mathlib.Omega.{arith}
 use lib.ListN.{length, getD, take, drop, set, length-take, length-drop, drop-of-length-le, take-append-drop, List·getD-eq-default}

@@ -1,17 +1,17 @@
 -- Bytes XORed into lanes: nothing changes nothing, and two at one place are their XOR.
 -- Assumes nothing.
-use mathlib.Core.Path.{_≡_, refl, sym, ap, ap₂, _∙_}
+use mathlib.Core.Path.{_≡_, refl, sym, ap₂, _∙_}
 use mathlib.Core.List.{List}
 use Prim.Native.Nat.{ℕ, zero, suc, _+_, _*_, _/_, _%_, _^_, _<_, _≤_}
 use native.Mathlib.Nat.{zero-mul, add-zero, mod-lt}
 use native.Mathlib.Decide.{decLt}
 use lib.Dec.{lit<}
 use native.Mathlib.Omega.{arith}
-use lib.ListN.{length, getD, set}
+use lib.ListN.{length}
 use lib.Seq.{set-getD, set-set, getD-set-same, set-out}
 use lib.Arith.{bin-ind}
 use lib.Pow.{pow-pos}
-use lib.Bits.{bitXor, differ, xor-step, xor-zero-l, xor-zero-r, xor-block, xor-shr, xor-mod}
+use lib.Bits.{bitXor, differ, xor-step, xor-zero-r, xor-block, xor-shr, xor-mod}
 use Rattle.sponge.specs.Published.{xorByte}
 
 bit-assoc : (x y z : ℕ) → x < 2 → y < 2 → z < 2 → differ (bitXor x y) z ≡ differ x (bitXor y z)

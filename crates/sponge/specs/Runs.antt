@@ -1,7 +1,7 @@
 -- A run of any function that is absorbed into, finalized and squeezed: what each call does to it on every input.
 -- Assumes nothing.
 use mathlib.Core.List.{List, []}
-use mathlib.Core.Bool.{Bool, true, false, cond}
+use mathlib.Core.Bool.{Bool, cond}
 use Prim.Native.Nat.{ℕ, _+_}
 use lib.ListN.{length}
 use Rattle.sponge.specs.Status.{unreachable}

@@ -1,13 +1,13 @@
 -- The cases of what each call answers, for the proofs of the code. Assumes nothing.
-use mathlib.Core.Path.{_≡_, refl, ap, sym, _∙_}
-use mathlib.Core.Bool.{Bool, true, false, cond, _&&_}
+use mathlib.Core.Path.{_≡_, refl, ap, _∙_}
+use mathlib.Core.Bool.{Bool, true, false, cond}
 use mathlib.Core.List.{List}
 use Prim.Native.Nat.{ℕ, zero, suc, _+_, _-_, _%_, _≤_, _<_, zero-le}
 use native.Mathlib.Nat.{mod-lt}
 use native.Mathlib.Numerals.{add-one}
 use native.Mathlib.Omega.{arith}
 use borrow.Author.Tests.{eq-eqb, ne-eqb, le-leb, lt-leb}
-use lib.Dec.{eqb, leb}
+use lib.Dec.{eqb}
 use lib.ListN.{length}
 use Rattle.sponge.specs.Waiting.{positionAfter}
 use Rattle.keccak.specs.Permutation.{permuted}
@@ -19,7 +19,7 @@ use Rattle.sponge.proofs.Valid.{absorb-done, pad-done, squeeze-done}
 use Rattle.sponge.proofs.Valid.{output-done as valid-output}
 use Rattle.sponge.proofs.Joining.{perform-done, perform-refused}
 use Rattle.sponge.proofs.Reachable.{Shape}
-use Rattle.turboshake.specs.Model.{limit, domainStatus, rules, reachable, machine, seen, held, Answer, answerOf, outputOf}
+use Rattle.turboshake.specs.Model.{limit, domainStatus, rules, reachable, machine, seen, held, answerOf, outputOf}
 use Rattle.turboshake.specs.declared.Run.{Run}
 use Rattle.turboshake.proofs.Laws.{positions, due, shape, first-is}
 

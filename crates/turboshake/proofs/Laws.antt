@@ -2,8 +2,8 @@
 -- Assumes nothing.
 use mathlib.Core.Path.{_≡_, refl, sym, ap, _∙_, subst}
 use mathlib.Core.List.{List, [], _∷_}
-use mathlib.Core.Bool.{Bool, true, false, cond, _&&_, and-eq-true-iff}
-use Prim.Native.Nat.{ℕ, zero, suc, _+_, _≤_, _<_, zero-le}
+use mathlib.Core.Bool.{Bool, true, cond, _&&_, and-eq-true-iff}
+use Prim.Native.Nat.{ℕ, zero, suc, _<_, zero-le}
 use native.Mathlib.Nat.{zero-add}
 use native.Mathlib.Omega.{arith}
 use lib.ListN.{length}
@@ -11,10 +11,10 @@ use lib.Dec.{T, eqb, leb}
 use borrow.Author.Tests.{eq-eqb, ne-eqb, eqb-true, le-leb, leb-true}
 use Rattle.keccak.specs.Permutation.{permuted}
 use Rattle.sponge.specs.Published.{xorByte}
-use Rattle.sponge.specs.Waiting.{At, positionAfter}
-use Rattle.sponge.specs.Model.{Sponge, fresh, absorbBytes, pad, squeezeBytes, afterBytes}
-use Rattle.sponge.specs.Transcript.{Call, Call.absorb, Call.finalize, Call.squeeze, Phase, Phase.absorbing, Phase.squeezing, phaseNumber, Transcript, statusOf}
-use Rattle.sponge.specs.Runs.{Run, Machine, worked, runOf}
+use Rattle.sponge.specs.Waiting.{positionAfter}
+use Rattle.sponge.specs.Model.{Sponge, fresh, absorbBytes, pad}
+use Rattle.sponge.specs.Transcript.{Call, Call.absorb, Call.finalize, Call.squeeze, Phase, Phase.absorbing, Phase.squeezing, statusOf}
+use Rattle.sponge.specs.Runs.{Run, worked, runOf}
 use Rattle.sponge.proofs.Waiting.{steps-append}
 use Rattle.sponge.proofs.Position.{steps-position, after-position}
 use Rattle.sponge.proofs.Published.{after-add, squeeze-add, length-squeeze, squeeze-sponge}

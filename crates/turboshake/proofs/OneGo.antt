@@ -4,14 +4,12 @@ use mathlib.Core.Path.{_≡_, refl, ap, sym, _∙_}
 use mathlib.Core.Bool.{true}
 use mathlib.Core.List.{List}
 use Prim.Native.Nat.{ℕ, zero, suc, _+_, _≤_, _<_, zero-le}
-use native.Mathlib.Nat.{zero-add}
 use borrow.Author.Tests.{eq-eqb, ne-eqb, le-leb, lt-leb}
 use lib.ListN.{length, replicate}
 use Rattle.keccak.specs.Permutation.{permuted}
 use Rattle.sponge.specs.Published.{xorByte}
-use Rattle.sponge.specs.Waiting.{positionAfter}
 use Rattle.sponge.specs.Transcript.{lent}
-use Rattle.sponge.specs.Model.{Sponge, fresh, absorbBytes, pad, squeezeBytes, afterBytes, valid, Outcome, absorbCall, padCall, squeezeCall, squeezeOutput}
+use Rattle.sponge.specs.Model.{Sponge, fresh, absorbBytes, pad, squeezeBytes, valid, Outcome, absorbCall, padCall, squeezeCall, squeezeOutput}
 use Rattle.sponge.proofs.FirstStatus.{first-refused}
 use Rattle.sponge.proofs.Published.{squeeze-sponge}
 use Rattle.sponge.proofs.Position.{steps-position}

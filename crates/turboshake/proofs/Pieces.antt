@@ -1,8 +1,8 @@
 -- What a caller knows of calls in a row on the code's own structs: a message absorbed in whatever pieces, finalized and squeezed.
 -- Assumes nothing.
-use mathlib.Core.Path.{_≡_, refl, ap, sym, _∙_}
+use mathlib.Core.Path.{_≡_, refl, ap, _∙_}
 use mathlib.Core.List.{List, [], _++_}
-use Prim.Native.Nat.{ℕ, zero, suc, _+_, _≤_, _<_, zero-le}
+use Prim.Native.Nat.{ℕ, _+_, _≤_, _<_, zero-le}
 use native.Mathlib.Nat.{zero-add}
 use native.Mathlib.Omega.{arith}
 use borrow.Author.Tests.{le-leb, lt-leb}
@@ -10,11 +10,11 @@ use lib.ListN.{length, length-append}
 use Rattle.sponge.specs.Model.{Sponge}
 use Rattle.sponge.specs.Transcript.{Call, Call.absorb, Call.finalize, Call.squeeze, Phase, Phase.absorbing, Phase.squeezing, Transcript, Reply, lent, transcribe}
 use Rattle.sponge.specs.Runs as runs
-use Rattle.sponge.specs.Runs.{perform, runOf}
+use Rattle.sponge.specs.Runs.{runOf}
 use Rattle.sponge.proofs.Streaming.{Fits, performs}
 use Rattle.sponge.proofs.Joining.{transcribe-done, transcribe-refused}
 use Rattle.turboshake.specs.Published.{turboshake}
-use Rattle.turboshake.specs.Model.{limit, domainStatus, rules, machine, seen, held, freshOf, Answer, answerOf, outputOf}
+use Rattle.turboshake.specs.Model.{limit, domainStatus, rules, machine, held, freshOf, Answer, answerOf, outputOf}
 use Rattle.turboshake.specs.declared.Run.{Run}
 use Rattle.turboshake.proofs.Laws.{laws}
 

@@ -10,7 +10,7 @@ use lib.ListN.{length}
 use lib.Dec.{T, eqb, leb}
 use Rattle.sponge.specs.Status.{unreachable}
 use Rattle.sponge.specs.Model.{Sponge}
-use Rattle.sponge.specs.Transcript.{Call, Call.absorb, Call.squeeze, Reply}
+use Rattle.sponge.specs.Transcript.{Call, Call.absorb, Call.squeeze}
 use Rattle.sponge.specs.Runs.{Run, perform}
 use Rattle.sponge.specs.Streaming.{Streaming, told, ran}
 use Rattle.sponge.proofs.Streaming as generic

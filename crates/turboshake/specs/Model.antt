@@ -1,15 +1,15 @@
 -- What each call on a run of TurboSHAKE, and each call in one go, does on every input, over the rate.
 -- Assumes nothing.
 use mathlib.Core.List.{List}
-use mathlib.Core.Bool.{Bool, true, false, cond, _&&_}
+use mathlib.Core.Bool.{Bool, cond, _&&_}
 use Prim.Native.Nat.{ℕ}
 use lib.ListN.{length}
 use lib.Dec.{eqb, leb}
 use Rattle.keccak.specs.Permutation.{permuted}
-use Rattle.sponge.specs.Waiting.{At, positionAfter}
+use Rattle.sponge.specs.Waiting.{positionAfter}
 use Rattle.sponge.specs.Model.{Sponge, fresh, absorbBytes, pad, squeezeBytes, afterBytes}
 use Rattle.sponge.specs.Status.{done, badDomain, inputTooLong, outputTooLong, badLength, firstOf}
-use Rattle.sponge.specs.Transcript.{Call, Call.absorb, Call.finalize, Call.squeeze, Rules, Reply, lent}
+use Rattle.sponge.specs.Transcript.{Call, Call.absorb, Call.finalize, Call.squeeze, Rules, lent}
 use Rattle.sponge.specs.Runs as runs
 use Rattle.sponge.specs.Runs.{Machine, freshRun, perform}
 use Rattle.turboshake.specs.Published.{turboshake}

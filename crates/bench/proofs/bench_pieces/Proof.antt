@@ -1,8 +1,8 @@
-use mathlib.Core.Path.{_≡_, ap, sym, _∙_}
-use Prim.Native.Nat.{ℕ, _+_, _-_, _≤_, _<_}
+use mathlib.Core.Path.{_∙_}
+use Prim.Native.Nat.{_+_, _-_, _≤_, _<_}
 use native.Mathlib.Omega.{arith}
 use borrow.Author.Needs.{needs}
-use lib.ListN.{length, take, drop}
+use lib.ListN.{length, take}
 use Rattle.turboshake.specs.Model.{limit}
 use Rattle.bench.proofs.Pieces.{pieces-9, pieces-2, Holds, holds-fresh, piece-done, piece-long, same-part, fits-limit, passes-limit, whole, row}
 use Rattle.bench.proofs.bench_pieces.Statement.{statement}

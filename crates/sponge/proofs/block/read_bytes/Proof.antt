@@ -1,11 +1,7 @@
-use mathlib.Core.Path.{_≡_, refl, ap, sym, subst, _∙_}
-use mathlib.Core.List.{List, _++_}
-use mathlib.Core.Logic.{⊎-elim}
-use Prim.Native.Nat.{ℕ, suc, _+_, _-_, _*_, _/_, _%_, _≤_, _<_}
+use mathlib.Core.Path.{_≡_, refl}
+use Prim.Native.Nat.{_-_, _≤_}
 use native.Mathlib.Omega.{arith}
-use borrow.Author.Needs.{needs}
-use lib.ListN.{length, take, drop, set, getD, length-set, length-drop, length-take, length-append}
-use lib.Seq.{length-take-le}
+use lib.ListN.{length, take, length-set}
 use Rattle.sponge.specs.Published.{bytesFrom}
 use Rattle.sponge.proofs.Output.{write-step, write-all}
 use Rattle.sponge.proofs.block.read_bytes.Statement.{statement}

@@ -1,4 +1,4 @@
-use mathlib.Core.Path.{_≡_, sym, _∙_}
+use mathlib.Core.Path.{sym, _∙_}
 use Rattle.sponge.specs.Model.{Outcome}
 use Rattle.turboshake.proofs.OneGo.{hash-refused, hash-written, row-done, row-written}
 use borrow.Author.Needs.{needs}
