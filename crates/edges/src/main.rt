@@ -2,13 +2,11 @@
 // sides of those that are taken, in one go and cut into small pieces. Writes a line for each: the function, `one` or `cut`, the
 // message's length, the domain byte, the bytes asked, the status and the output buffer. Messages are the draft's test pattern
 // ptn; the buffer holds A5 in every byte before the calls.
-mod calls;
-
 ghost use mathlib.Core.Path.{_≡_};
 ghost use Prim.Native.Nat.{_≤_, min};
 ghost use lib.ListN.{length};
-use calls::Answer;
-use calls::Function;
+use functions::Answer;
+use functions::Function;
 use libc::STDOUT_FILENO;
 use sponge::status::DONE;
 use turboshake::Run;
@@ -45,13 +43,13 @@ fn fill(buffer: &mut [u8]) {
 
 // Absorbs the message in pieces, and stops at a call that is refused.
 fn absorb_message(function: Function, message: &[u8]) -> Answer {
-    let run = calls::fresh(function);
+    let run = functions::fresh(function);
     let mut answer = Answer { status: DONE, run };
     let mut i: usize = 0;
     while i < message.len() && answer.status == DONE {
         let k = least(message.len() - i, PIECE);
         let given = answer.run;
-        answer = calls::absorb(function, given, &message[i..i + k]);
+        answer = functions::absorb(function, given, &message[i..i + k]);
         i += k;
     }
     answer
@@ -64,7 +62,7 @@ fn squeeze_output(function: Function, run: Run, out: &mut [u8]) -> u8 {
     while i < out.len() && answer.status == DONE {
         let k = least(out.len() - i, OUTPUT_PIECE);
         let given = answer.run;
-        answer = calls::squeeze(function, given, &mut out[i..i + k]);
+        answer = functions::squeeze(function, given, &mut out[i..i + k]);
         i += k;
     }
     answer.status
@@ -78,7 +76,7 @@ fn cut(function: Function, message: &[u8], domain: u8, out: &mut [u8]) -> u8 {
         return absorbed.status;
     }
     let open = absorbed.run;
-    let finalized = calls::finalize(function, open, domain);
+    let finalized = functions::finalize(function, open, domain);
     let run = finalized.run;
     let squeezed = squeeze_output(function, run, out);
     if finalized.status != DONE {
@@ -141,7 +139,7 @@ fn status_of(function: Function, is_cut: bool, message: &[u8], domain: u8, out: 
     if is_cut {
         cut(function, message, domain, out)
     } else {
-        calls::hash(function, message, domain, out)
+        functions::hash(function, message, domain, out)
     }
 }
 

@@ -13,7 +13,7 @@
 //   T  1 byte function, 1 byte domain byte, 4 bytes L, message  L bytes in one go                    as R
 //
 // The input's end before a record ends the program. Any other record, or one that does not fit: `bad record`, and the end.
-mod calls;
+mod by_number;
 mod field;
 mod line;
 mod number;

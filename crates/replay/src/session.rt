@@ -1,12 +1,12 @@
 // What each record does, and its line. Where a record is for the run in hand, the caller sees that there is one.
 ghost use Prim.Native.Nat.{_+_, _*_, _≤_};
 ghost use lib.ListN.{length};
-use crate::calls;
-use crate::calls::Asked;
-use crate::calls::Function;
+use crate::by_number;
+use crate::by_number::Asked;
 use crate::field;
 use crate::line;
 use crate::number;
+use functions::Function;
 use libc::STDOUT_FILENO;
 use turboshake::Run;
 
@@ -24,7 +24,7 @@ pub struct Session {
 // No run in hand: the one that stands here is not used.
 pub fn begin() -> Session {
     let function = Function::TurboShake128;
-    let run = calls::fresh(function);
+    let run = functions::fresh(function);
     Session {
         is_going: true,
         has_run: false,
@@ -59,10 +59,10 @@ pub fn fresh(session: Session, payload: &[u8]) -> Session {
     if payload.len() != 1 {
         return bad_record(session);
     }
-    let Asked::Known(function) = calls::function_of(payload[0]) else {
+    let Asked::Known(function) = by_number::function_of(payload[0]) else {
         return bad_record(session);
     };
-    let run = calls::fresh(function);
+    let run = functions::fresh(function);
     let is_written = io::write_all(STDOUT_FILENO, b"fresh\n");
     Session {
         is_going: is_written,
@@ -75,7 +75,7 @@ pub fn fresh(session: Session, payload: &[u8]) -> Session {
 pub fn absorb(session: Session, payload: &[u8]) -> Session {
     let function = session.function;
     let given = session.run;
-    let answer = calls::absorb(function, given, payload);
+    let answer = functions::absorb(function, given, payload);
     let run = answer.run;
     after_line(with_run(session, run), line::write_status(answer.status))
 }
@@ -86,7 +86,7 @@ pub fn finalize(session: Session, payload: &[u8]) -> Session {
     }
     let function = session.function;
     let given = session.run;
-    let answer = calls::finalize(function, given, payload[0]);
+    let answer = functions::finalize(function, given, payload[0]);
     let run = answer.run;
     after_line(with_run(session, run), line::write_status(answer.status))
 }
@@ -132,7 +132,7 @@ pub fn squeeze(session: Session, out: &mut [u8], text: &mut [u8]) -> Session
     fill(out);
     let function = session.function;
     let given = session.run;
-    let answer = calls::squeeze(function, given, out);
+    let answer = functions::squeeze(function, given, out);
     let run = answer.run;
     after_line(
         with_run(session, run),
@@ -152,7 +152,7 @@ fn hash(
     requires { ⌜ 2 * length (now out) + 2 ≤ length (now text) ⌝ }
 {
     fill(out);
-    let status = calls::hash(function, &payload[6..], payload[1], out);
+    let status = functions::hash(function, &payload[6..], payload[1], out);
     after_line(session, line::write_output(status, out, text))
 }
 
@@ -163,7 +163,7 @@ pub fn one_go(session: Session, payload: &[u8], out: &mut [u8], text: &mut [u8])
     if payload.len() < 6 {
         return bad_record(session);
     }
-    let Asked::Known(function) = calls::function_of(payload[0]) else {
+    let Asked::Known(function) = by_number::function_of(payload[0]) else {
         return bad_record(session);
     };
     let asked = number::of_four(payload, 2);

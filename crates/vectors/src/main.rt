@@ -1,13 +1,11 @@
 // Runs the TurboSHAKE vectors of draft-irtf-cfrg-kangarootwelve-16, each message absorbed and each output squeezed in pieces.
 // Writes a line for each: the function, the message's kind and length, the domain byte, the bytes asked, and the bytes that
 // the draft prints, or the status of the call that was refused.
-mod calls;
-
 ghost use mathlib.Core.Path.{_≡_};
 ghost use Prim.Native.Nat.{_≤_, min};
 ghost use lib.ListN.{length};
-use calls::Answer;
-use calls::Function;
+use functions::Answer;
+use functions::Function;
 use libc::STDOUT_FILENO;
 use sponge::status::DONE;
 use turboshake::Run;
@@ -57,13 +55,13 @@ fn fill(buffer: &mut [u8], is_ff: bool) {
 fn absorb_message(function: Function, buffer: &[u8], n: usize) -> Answer
     requires { ⌜ 8032 ≤ length (now buffer) ⌝ }
 {
-    let run = calls::fresh(function);
+    let run = functions::fresh(function);
     let mut answer = Answer { status: DONE, run };
     let mut left = n;
     while 0 < left && answer.status == DONE {
         let k = least(left, PIECE);
         let given = answer.run;
-        answer = calls::absorb(function, given, &buffer[0..k]);
+        answer = functions::absorb(function, given, &buffer[0..k]);
         left -= k;
     }
     answer
@@ -72,12 +70,12 @@ fn absorb_message(function: Function, buffer: &[u8], n: usize) -> Answer
 // Squeezes the output in two halves, and answers the last call's status.
 fn squeeze_output(function: Function, run: Run, out: &mut [u8]) -> u8 {
     let half = out.len() / 2;
-    let first = calls::squeeze(function, run, &mut out[0..half]);
+    let first = functions::squeeze(function, run, &mut out[0..half]);
     if first.status != DONE {
         return first.status;
     }
     let next = first.run;
-    let rest = calls::squeeze(function, next, &mut out[half..]);
+    let rest = functions::squeeze(function, next, &mut out[half..]);
     rest.status
 }
 
@@ -91,7 +89,7 @@ fn digest(vector: Vector, out: &mut [u8]) -> u8 {
         return absorbed.status;
     }
     let open = absorbed.run;
-    let finalized = calls::finalize(function, open, vector.domain);
+    let finalized = functions::finalize(function, open, vector.domain);
     if finalized.status != DONE {
         return finalized.status;
     }
