@@ -7,6 +7,7 @@ ghost use Rattle.sponge.specs.Transcript.{Call};
 ghost use Rattle.turboshake.specs.Model.{domainStatus, reachable, freshOf, runWith, answered, answerOf, outputOf, hashStatus, hashOutput};
 use crate::Moved;
 use crate::Run;
+use sponge::status;
 
 const ABSORBING: u8 = 0;
 
@@ -52,12 +53,12 @@ fn domain_status(domain: u8) -> u8
     ensures { λ r. ⌜ r ≡ domainStatus domain ⌝ }
 {
     if domain < 1 {
-        return sponge::status::BAD_DOMAIN;
+        return status::BAD_DOMAIN;
     }
     if 0x7F < domain {
-        return sponge::status::BAD_DOMAIN;
+        return status::BAD_DOMAIN;
     }
-    sponge::status::DONE
+    status::DONE
 }
 
 pub(crate) fn fresh() -> Run
@@ -73,11 +74,11 @@ pub(crate) fn fresh() -> Run
     }
 }
 
-fn refused(status: u8, position: usize, phase: u8, absorbed: u64, squeezed: u64) -> Moved
-    ensures { λ r. ⌜ r ≡ record { status = status; position = position; phase = phase; absorbed = absorbed; squeezed = squeezed } ⌝ }
+fn refused(number: u8, position: usize, phase: u8, absorbed: u64, squeezed: u64) -> Moved
+    ensures { λ r. ⌜ r ≡ record { status = number; position = position; phase = phase; absorbed = absorbed; squeezed = squeezed } ⌝ }
 {
     Moved {
-        status,
+        status: number,
         position,
         phase,
         absorbed,
@@ -98,32 +99,14 @@ pub(crate) fn absorb(
     ensures { λ r. ⌜ answered r (now (lanes .exit)) ≡ answerOf rate (runWith (now (lanes .entry)) position phase absorbed squeezed) (Call.absorb (now (piece .entry))) ⌝ }
 {
     if !is_reachable(rate, position, phase, absorbed, squeezed) {
-        return refused(
-            sponge::status::UNREACHABLE,
-            position,
-            phase,
-            absorbed,
-            squeezed,
-        );
+        return refused(status::UNREACHABLE, position, phase, absorbed, squeezed);
     }
     if phase != ABSORBING {
-        return refused(
-            sponge::status::WRONG_PHASE,
-            position,
-            phase,
-            absorbed,
-            squeezed,
-        );
+        return refused(status::WRONG_PHASE, position, phase, absorbed, squeezed);
     }
     let total = absorbed + piece.len() as u64;
     if LIMIT < total {
-        return refused(
-            sponge::status::INPUT_TOO_LONG,
-            position,
-            phase,
-            absorbed,
-            squeezed,
-        );
+        return refused(status::INPUT_TOO_LONG, position, phase, absorbed, squeezed);
     }
     let taken = sponge::absorb(lanes, position, rate, piece);
     Moved {
@@ -148,26 +131,14 @@ pub(crate) fn finalize(
     ensures { λ r. ⌜ answered r (now (lanes .exit)) ≡ answerOf rate (runWith (now (lanes .entry)) position phase absorbed squeezed) (Call.finalize domain) ⌝ }
 {
     if !is_reachable(rate, position, phase, absorbed, squeezed) {
-        return refused(
-            sponge::status::UNREACHABLE,
-            position,
-            phase,
-            absorbed,
-            squeezed,
-        );
+        return refused(status::UNREACHABLE, position, phase, absorbed, squeezed);
     }
     if phase != ABSORBING {
-        return refused(
-            sponge::status::WRONG_PHASE,
-            position,
-            phase,
-            absorbed,
-            squeezed,
-        );
+        return refused(status::WRONG_PHASE, position, phase, absorbed, squeezed);
     }
-    let status = domain_status(domain);
-    if status != sponge::status::DONE {
-        return refused(status, position, phase, absorbed, squeezed);
+    let refusal = domain_status(domain);
+    if refusal != status::DONE {
+        return refused(refusal, position, phase, absorbed, squeezed);
     }
     let padded = sponge::pad(lanes, position, rate, domain);
     Moved {
@@ -193,32 +164,14 @@ pub(crate) fn squeeze(
     ensures { λ r. ⌜ now (out .exit) ≡ outputOf rate (runWith (now (lanes .entry)) position phase absorbed squeezed) (now (out .entry)) ⌝ }
 {
     if !is_reachable(rate, position, phase, absorbed, squeezed) {
-        return refused(
-            sponge::status::UNREACHABLE,
-            position,
-            phase,
-            absorbed,
-            squeezed,
-        );
+        return refused(status::UNREACHABLE, position, phase, absorbed, squeezed);
     }
     if phase != SQUEEZING {
-        return refused(
-            sponge::status::WRONG_PHASE,
-            position,
-            phase,
-            absorbed,
-            squeezed,
-        );
+        return refused(status::WRONG_PHASE, position, phase, absorbed, squeezed);
     }
     let total = squeezed + out.len() as u64;
     if LIMIT < total {
-        return refused(
-            sponge::status::OUTPUT_TOO_LONG,
-            position,
-            phase,
-            absorbed,
-            squeezed,
-        );
+        return refused(status::OUTPUT_TOO_LONG, position, phase, absorbed, squeezed);
     }
     let given = sponge::squeeze(lanes, position, rate, out);
     Moved {
@@ -233,20 +186,20 @@ pub(crate) fn squeeze(
 fn hash_status(message: u64, domain: u8, asked: u64) -> u8
     ensures { λ r. ⌜ r ≡ hashStatus message domain asked ⌝ }
 {
-    let status = domain_status(domain);
-    if status != sponge::status::DONE {
-        return status;
+    let refusal = domain_status(domain);
+    if refusal != status::DONE {
+        return refusal;
     }
     if LIMIT < message {
-        return sponge::status::INPUT_TOO_LONG;
+        return status::INPUT_TOO_LONG;
     }
     if asked == 0 {
-        return sponge::status::BAD_LENGTH;
+        return status::BAD_LENGTH;
     }
     if LIMIT < asked {
-        return sponge::status::OUTPUT_TOO_LONG;
+        return status::OUTPUT_TOO_LONG;
     }
-    sponge::status::DONE
+    status::DONE
 }
 
 pub(crate) fn hash(rate: usize, message: &[u8], domain: u8, out: &mut [u8]) -> u8
@@ -254,9 +207,9 @@ pub(crate) fn hash(rate: usize, message: &[u8], domain: u8, out: &mut [u8]) -> u
     ensures { λ r. ⌜ r ≡ hashStatus (length (now (message .entry))) domain (length (now (out .entry))) ⌝ }
     ensures { λ r. ⌜ now (out .exit) ≡ hashOutput rate (now (message .entry)) domain (now (out .entry)) ⌝ }
 {
-    let status = hash_status(message.len() as u64, domain, out.len() as u64);
-    if status != sponge::status::DONE {
-        return status;
+    let refusal = hash_status(message.len() as u64, domain, out.len() as u64);
+    if refusal != status::DONE {
+        return refusal;
     }
     let mut lanes = [0u64; 25];
     let absorbed = sponge::absorb(&mut lanes, 0, rate, message);

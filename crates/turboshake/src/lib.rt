@@ -18,12 +18,12 @@ pub struct Run {
 }
 
 // What a call leaves of a run beside its lanes, and its status.
-pub struct Moved {
-    pub status: u8,
-    pub position: usize,
-    pub phase: u8,
-    pub absorbed: u64,
-    pub squeezed: u64,
+struct Moved {
+    status: u8,
+    position: usize,
+    phase: u8,
+    absorbed: u64,
+    squeezed: u64,
 }
 
 // A run of TurboSHAKE128.
