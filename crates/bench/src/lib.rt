@@ -47,11 +47,11 @@ pub extern "C" fn bench_pieces(message: &[u8], step: usize, out: &mut [u8]) -> u
     while i < message.len() {
         let k = least(step, message.len() - i);
         let absorbed = hasher.absorb(&message[i..i + k]);
+        let next = absorbed.hasher;
+        hasher = next;
         if absorbed.status != sponge::status::DONE {
             return absorbed.status;
         }
-        let next = absorbed.hasher;
-        hasher = next;
         i += k;
     }
     let finalized = hasher.finalize(DOMAIN);

@@ -53,11 +53,11 @@ absorb-requires c κs = search needs
 
 returns-2 : tie.Need-returns-2 Inv-loop μ-loop
 returns-2 c =
-    let l = c .before .before .before .before .before .before in
+    let l = c .before .before .before .before .before .before .before in
     let a = l .before .before .before .before .before .args in
     let i = l .loop .i in
-    let k = c .before .before .before .before .least .result in
-    let r = c .before .before .absorb in
+    let k = c .before .before .before .before .before .least .result in
+    let r = c .before .before .before .absorb in
     let w = r .ensures ∙ same-part (l .loop .hasher) (a .message .now) i k in
     let g : limit < i + k = passes-limit (l .loop .hasher) (a .message .now) i k (l .loop .inv .2) (omega arith) (r .result) w (c .if2 .taken) in
     let p = pieces-2 (a .step) (a .message .now) (a .out .now) (l .before .before .if1 .left) (omega arith) in
@@ -77,7 +77,7 @@ loop-again c =
     let k = c .before .before .before .before .before .least .result in
     let r = c .before .before .before .absorb in
     let w = r .ensures ∙ same-part (l .loop .hasher) (a .message .now) i k in
-    let g : i + k ≤ limit = fits-limit (l .loop .hasher) (a .message .now) i k (l .loop .inv .2) (omega arith) (r .result) w (l .loop .inv .1) (c .before .if2 .left) in (
+    let g : i + k ≤ limit = fits-limit (l .loop .hasher) (a .message .now) i k (l .loop .inv .2) (omega arith) (r .result) w (l .loop .inv .1) (c .if2 .left) in (
       omega arith,
       g,
       piece-done (l .loop .hasher) (a .message .now) i k (l .loop .inv .2) (omega arith) (r .result) w g .1,
