@@ -17,14 +17,11 @@ const BAD_STEP: u8 = 9;
 pub extern "C" fn bench_permute(lanes: &mut [u64; 25], count: usize)
     ensures { λ _. ⌜ now (lanes .exit) ≡ repeated count (now (lanes .entry)) ⌝ }
 {
-    let mut a = *lanes;
     let mut i: usize = 0;
     while i < count {
-        let b = keccak::permute(a);
-        a = b;
+        keccak::permute_in_place(lanes);
         i += 1;
     }
-    *lanes = a;
 }
 
 fn least(x: usize, y: usize) -> usize

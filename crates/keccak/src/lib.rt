@@ -52,18 +52,27 @@ const OFFSETS: [u64; 25] = [
     14,
 ];
 
-// The state after the twelve rounds, for any lanes.
-pub fn permute(lanes: [u64; 25]) -> [u64; 25]
-    ensures { λ r. ⌜ r ≡ permuted lanes ⌝ }
+// Permutes the lent lanes by the twelve rounds, for any lanes.
+pub fn permute_in_place(lanes: &mut [u64; 25])
+    ensures { λ _. ⌜ now (lanes .exit) ≡ permuted (now (lanes .entry)) ⌝ }
 {
     // Copied before the loop: read inside it, the table is built on the stack at every turn.
     let constants = ROUND_CONSTANTS;
-    let mut a = lanes;
+    let mut a = *lanes;
     let mut i: usize = 0;
     while i < 12 {
         let b = round::round(a, constants[i]);
         a = b;
         i += 1;
     }
+    *lanes = a;
+}
+
+// The state after the twelve rounds, for any lanes.
+pub fn permute(lanes: [u64; 25]) -> [u64; 25]
+    ensures { λ r. ⌜ r ≡ permuted lanes ⌝ }
+{
+    let mut a = lanes;
+    permute_in_place(&mut a);
     a
 }

@@ -57,9 +57,7 @@ fn next_position(lanes: &mut [u64; 25], position: usize, rate: usize) -> usize
     ensures { λ r. ⌜ record { value = now (lanes .exit); position = r } ≡ ready permuted rate (record { value = now (lanes .entry); position = position }) ⌝ }
 {
     if position == rate {
-        let full = *lanes;
-        let next = keccak::permute(full);
-        *lanes = next;
+        keccak::permute_in_place(lanes);
         return 0;
     }
     position
@@ -108,9 +106,7 @@ fn pad_block(lanes: &mut [u64; 25], position: usize, rate: usize, last: u8)
     let at = next_position(lanes, position, rate);
     block::xor_byte(lanes, at, last);
     block::xor_byte(lanes, rate - 1, 0x80);
-    let padded = *lanes;
-    let last_block = keccak::permute(padded);
-    *lanes = last_block;
+    keccak::permute_in_place(lanes);
 }
 
 // Absorbs a piece.

@@ -1,4 +1,4 @@
--- `bench::bench_permute` meets its contract. The loop's invariant: `a` is the lanes at entry, permuted `i` times.
+-- `bench::bench_permute` meets its contract. The loop's invariant: the lanes are those at entry, permuted `i` times.
 -- Assumes nothing.
 use mathlib.Core.Path.{_≡_, refl, sym, ap, _∙_}
 use mathlib.Core.List.{List}
@@ -12,10 +12,10 @@ use Rattle.bench.proofs.bench_permute.Statement.{statement}
 use Rattle.bench.proofs.bench_permute.Tie as tie
 
 abbrev Inv-loop : tie.InvT-loop
-Inv-loop lanes count a₀ i₀ a i = (i ≤ count) × (a ≡ repeated i a₀)
+Inv-loop lanes₀ count i₀ lanes i = (i ≤ count) × (lanes ≡ repeated i lanes₀)
 
 abbrev μ-loop : tie.MeasureT-loop
-μ-loop lanes count a₀ i₀ a i = count - i
+μ-loop lanes₀ count i₀ lanes i = count - i
 
 one-more : (l a b : List ℕ) (i : ℕ) → a ≡ repeated i l → b ≡ permuted a → b ≡ repeated (i + 1) l
 unfolding repeated
@@ -27,13 +27,13 @@ loop-holds c = (omega arith, refl)
 
 loop-again : tie.Need-loop-again Inv-loop μ-loop
 loop-again c =
-    let at = c .before .before .loop in
-    (omega arith, one-more _ (at .a) (c .permute .result) (at .i) (at .inv .1) (c .permute .ensures))
+    let at = c .before .before .before .loop in
+    (omega arith, one-more _ (at .lanes) (c .permute-in-place .last .0) (at .i) (at .inv .1) (c .permute-in-place .ensures))
 
 returns : tie.Need-returns Inv-loop μ-loop
 returns c =
     let at = c .before .loop in
-    let args = c .before .before .before .args in
+    let args = c .before .before .args in
     let e : at .i ≡ args .count = omega arith in
     at .inv .1 ∙ ap (λ (k : ℕ). repeated k (args .lanes .now)) e
 

@@ -9,15 +9,15 @@ use Rattle.sponge.proofs.next_position.Statement.{statement}
 use Rattle.sponge.proofs.next_position.Tie as tie
 use Rattle.sponge.proofs.next_position.Reads as reads
 use Rattle.sponge.proofs.next_position.Lts as lts
-use Rattle.keccak.proofs.permute.Reads as permute-reads
+use Rattle.keccak.proofs.permute_in_place.Reads as permute-in-place-reads
 
-permute-requires : tie.Need-permute-requires
-permute-requires c κs = search needs
+permute-in-place-requires : tie.Need-permute-in-place-requires
+permute-in-place-requires c κs = search needs
 
 returns : tie.Need-returns
 returns c =
     let a = c .before .before .before .args in
-    (omega arith, ap (λ (m : List ℕ). record { value = m; position = 0 }) (c .permute .ensures) ∙ ready-full permuted (a .rate) (a .lanes .now) (a .position) (c .before .before .if1 .taken))
+    (omega arith, ap (λ (m : List ℕ). record { value = m; position = 0 }) (c .permute-in-place .ensures) ∙ ready-full permuted (a .rate) (a .lanes .now) (a .position) (c .before .before .if1 .taken))
 
 returns-2 : tie.Need-returns-2
 returns-2 c =
@@ -26,4 +26,4 @@ returns-2 c =
     (h, ready-other permuted (a .rate) (a .lanes .now) (a .position) h)
 
 pub next-position-spec : {M : Type 1} → statement M
-next-position-spec = tie.close (tie.spec permute-requires returns returns-2)
+next-position-spec = tie.close (tie.spec permute-in-place-requires returns returns-2)

@@ -10,7 +10,7 @@ use Rattle.sponge.proofs.pad_block.Statement.{statement}
 use Rattle.sponge.proofs.pad_block.Tie as tie
 use Rattle.sponge.proofs.pad_block.Reads as reads
 use Rattle.sponge.proofs.pad_block.Lts as lts
-use Rattle.keccak.proofs.permute.Reads as permute-reads
+use Rattle.keccak.proofs.permute_in_place.Reads as permute-in-place-reads
 use Rattle.sponge.proofs.block.xor_byte.Reads as xor-byte-reads
 use Rattle.sponge.proofs.next_position.Reads as next-position-reads
 
@@ -26,15 +26,15 @@ sub-xor-byte c = search needs
 xor-byte-requires-2 : tie.Need-xor-byte-requires-2
 xor-byte-requires-2 c κs = search needs
 
-permute-requires : tie.Need-permute-requires
-permute-requires c κs = search needs
+permute-in-place-requires : tie.Need-permute-in-place-requires
+permute-in-place-requires c κs = search needs
 
 returns : tie.Need-returns
 returns c =
     let a = c .before .before .before .before .before .before .before .before .args in
     let q = c .before .before .before .before .before .before .next-position in
     ap (λ (m : List ℕ). record { value = m; position = 0 })
-    (c .permute .ensures
+    (c .permute-in-place .ensures
     ∙ ap permuted (c .before .before .xor-byte2 .ensures ∙ ap (λ (m : List ℕ). xorByte m (a .rate - 1) 0x80) (c .before .before .before .before .xor-byte .ensures)))
     ∙ pad-part permuted (a .rate) (record { value = a .lanes .now; position = a .position }) (q .last .0) (q .result) (q .ensures .1) (q .ensures .0) (a .last)
 
@@ -46,5 +46,5 @@ pad-block-spec =
     xor-byte-requires
     sub-xor-byte
     xor-byte-requires-2
-    permute-requires
+    permute-in-place-requires
     returns)
