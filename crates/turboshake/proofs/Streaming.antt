@@ -1,8 +1,8 @@
 -- Demand 3 for TurboSHAKE, over every list of calls from a fresh run, and what follows from it. One proof over the rate; the two
 -- strengths differ in a number.
 -- Assumes nothing.
-use mathlib.Core.Path.{_≡_, refl, sym, _∙_, subst}
-use mathlib.Core.List.{List, [], _++_}
+use mathlib.Core.Path.{_≡_, refl, sym, ap, _∙_, subst}
+use mathlib.Core.List.{List, [], _∷_, _++_}
 use mathlib.Core.Bool.{Bool, true, false, cond, _&&_}
 use Prim.Native.Nat.{ℕ, suc, _+_, _≤_, _<_}
 use native.Mathlib.Omega.{arith}
@@ -11,12 +11,13 @@ use lib.Dec.{T, eqb, leb}
 use Rattle.sponge.specs.Status.{unreachable}
 use Rattle.sponge.specs.Model.{Sponge}
 use Rattle.sponge.specs.Transcript.{Call, Call.absorb, Call.squeeze}
-use Rattle.sponge.specs.Runs.{Run, perform}
-use Rattle.sponge.specs.Streaming.{Streaming, told, ran}
+use Rattle.sponge.specs.Runs.{Run, freshRun, perform, runOf}
+use Rattle.sponge.specs.Streaming.{History, history, Streaming, told, ran}
 use Rattle.sponge.proofs.Streaming as generic
 use Rattle.sponge.proofs.Joining as joining
 use Rattle.sponge.proofs.Reachable.{Reached, reachable-reached, reached-reachable, status-five, five-status}
-use Rattle.turboshake.specs.Model.{limit, domainStatus, rules, reachable, machine}
+use Rattle.turboshake.specs.Model.{limit, domainStatus, rules, machine, held, freshOf, answerOf, replyOf}
+use Rattle.turboshake.specs.declared.Run as code
 use Rattle.turboshake.proofs.Laws.{positions, due, shape, shaped, laws, stays}
 
 -- ---- the list theorem, at the published TurboSHAKE
@@ -97,3 +98,31 @@ module _ (rate : ℕ) (pos : 0 < rate) where
       by : (t : Bool) → machine rate .reachable r ≡ t → perform (rules rate) (machine rate) r c .status ≡ unreachable
       by true e = absurd (g (reached r e))
       by false e = five-status (rules rate) (machine rate) no-five r c e
+
+  -- ---- the list theorem on the code's own runs: `answerOf`, which the contracts cite, from `freshOf`
+
+  pub history-seen : (cs : List (Call ℕ)) (r : Run Sponge)
+      → history (replyOf rate) (held r) cs ≡ record {
+        statuses = history (perform (rules rate) (machine rate)) r cs .statuses;
+        bytes = history (perform (rules rate) (machine rate)) r cs .bytes;
+        left = held (history (perform (rules rate) (machine rate)) r cs .left);
+      }
+  unfolding replyOf answerOf
+  history-seen [] r = refl
+  history-seen (c ∷ cs) r =
+      ap (λ (h : History code.Run). record {
+        statuses = perform (rules rate) (machine rate) r c .status ∷ h .statuses;
+        bytes = perform (rules rate) (machine rate) r c .bytes ∷ h .bytes;
+        left = h .left;
+      }) (history-seen cs (perform (rules rate) (machine rate) r c .left))
+
+  pub streaming-code : (cs : List (Call ℕ))
+      → history (replyOf rate) (freshOf rate) cs ≡ record {
+        statuses = told (rules rate) (machine rate) cs .statuses;
+        bytes = told (rules rate) (machine rate) cs .bytes;
+        left = held (runOf (rules rate) (machine rate) (told (rules rate) (machine rate) cs .left));
+      }
+  unfolding freshOf
+  streaming-code cs =
+      let s : Streaming (rules rate) (machine rate) cs = streaming rate pos cs in
+      history-seen cs (freshRun (rules rate) (machine rate)) ∙ rw (s .statuses, s .bytes, s .run)

@@ -9,7 +9,7 @@ use Rattle.keccak.specs.Permutation.{permuted}
 use Rattle.sponge.specs.Waiting.{positionAfter}
 use Rattle.sponge.specs.Model.{Sponge, fresh, absorbBytes, pad, squeezeBytes, afterBytes}
 use Rattle.sponge.specs.Status.{done, badDomain, inputTooLong, outputTooLong, badLength, firstOf}
-use Rattle.sponge.specs.Transcript.{Call, Call.absorb, Call.finalize, Call.squeeze, Rules, lent}
+use Rattle.sponge.specs.Transcript.{Call, Call.squeeze, Rules, Reply, lent}
 use Rattle.sponge.specs.Runs as runs
 use Rattle.sponge.specs.Runs.{Machine, freshRun, perform}
 use Rattle.turboshake.specs.Published.{turboshake}
@@ -70,6 +70,10 @@ pub record Answer : Type 0 where
 
 unfoldable pub answerOf : ℕ → Run → Call ℕ → Answer
 answerOf rate r c = record { status = perform (rules rate) (machine rate) (seen r) c .status; run = held (perform (rules rate) (machine rate) (seen r) c .left) }
+
+-- the same with the bytes given: what a list of calls on the code's runs is made of
+unfoldable pub replyOf : ℕ → Run → Call ℕ → Reply Run
+replyOf rate r c = record { status = answerOf rate r c .status; bytes = perform (rules rate) (machine rate) (seen r) c .bytes; left = answerOf rate r c .run }
 
 -- the same from a run's parts
 abbrev pub runWith : List ℕ → ℕ → ℕ → ℕ → ℕ → Run
