@@ -66,6 +66,15 @@ SAMPLE = [
     (record("N", b"\0"), None),
 ]
 
+
+def stdin():
+    return b"".join(data for data, _ in SAMPLE)
+
+
+def stdout():
+    return "".join(line + "\n" for _, line in SAMPLE if line is not None)
+
+
 if __name__ == "__main__":
-    (CRATE / "stdin").write_bytes(b"".join(data for data, _ in SAMPLE))
-    (CRATE / "stdout").write_text("".join(line + "\n" for _, line in SAMPLE if line is not None))
+    (CRATE / "stdin").write_bytes(stdin())
+    (CRATE / "stdout").write_text(stdout())

@@ -3,6 +3,7 @@ import unittest
 from pathlib import Path
 
 import expected
+import make_replay_sample
 import reference
 
 ROOT = Path(__file__).resolve().parent.parent
@@ -19,6 +20,12 @@ class Output(unittest.TestCase):
         for program, output in expected.OUTPUTS.items():
             with self.subTest(program=program):
                 self.assertEqual((ROOT / "target/log" / f"{program}.stdout").read_text(), output())
+
+    def test_replay_sample(self):
+        """The list of calls that `rt ci` runs `replay` on, and its lines, are those of the script."""
+        crate = ROOT / "crates/replay"
+        self.assertEqual((crate / "stdin").read_bytes(), make_replay_sample.stdin())
+        self.assertEqual((crate / "stdout").read_text(), make_replay_sample.stdout())
 
     def test_vectors(self):
         """The draft has 16 vectors of TurboSHAKE128 and 15 of TurboSHAKE256."""

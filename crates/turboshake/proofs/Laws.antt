@@ -1,9 +1,9 @@
 -- TurboSHAKE's machine meets the laws of the law of joining, for every rate above 0.
 -- Assumes nothing.
 use mathlib.Core.Path.{_≡_, refl, sym, ap, _∙_, subst}
-use mathlib.Core.List.{List, [], _∷_}
+use mathlib.Core.List.{List, [], _∷_, _++_}
 use mathlib.Core.Bool.{Bool, true, cond, _&&_, and-eq-true-iff}
-use Prim.Native.Nat.{ℕ, zero, suc, _<_, zero-le}
+use Prim.Native.Nat.{ℕ, zero, suc, _+_, _<_, zero-le}
 use native.Mathlib.Nat.{zero-add}
 use native.Mathlib.Omega.{arith}
 use lib.ListN.{length}
@@ -104,11 +104,15 @@ module _ (rate : ℕ) where
           (after-position permuted rate pos 0 (pad permuted rate (absorbBytes permuted rate fresh f) d) n (pad-position permuted rate (absorbBytes permuted rate fresh f) d) ∙ ap (positionAfter rate) (zero-add n));
     }
 
+    absorb-joins : (n : ℕ) (s : Sponge) (p q : List ℕ) → machine rate .absorb n s (p ++ q) ≡ machine rate .absorb (n + length p) (machine rate .absorb n s p) q
+    unfolding machine
+    absorb-joins n s p q = steps-append permuted xorByte rate s p q
+
     pub laws : Laws (rules rate) (machine rate)
     unfolding rules machine turboshake
     laws = record {
       absorb-nothing = λ n s. refl;
-      absorb-append = λ n s p q. steps-append permuted xorByte rate s p q;
+      absorb-append = absorb-joins;
       after-zero = λ s. refl;
       after-add = after-add permuted rate pos;
       squeeze-add = squeeze-add permuted rate pos;
