@@ -10,7 +10,8 @@ use lib.ListN.{length, take, drop}
 use lib.Seq.{length-take-le, take-add, take-all}
 use Rattle.sponge.specs.Transcript.{Call.absorb, Call.finalize, Call.squeeze}
 use Rattle.turboshake.specs.Published.{turboshake128}
-use Rattle.turboshake.specs.Model.{limit, freshOf, Answer, answerOf, answer128, outputOf}
+use Rattle.turboshake.specs.Transcript.{limit}
+use Rattle.turboshake.specs.Model.{freshOf, Answer, answerOf, answer128, outputOf}
 use Rattle.turboshake.specs.declared.Run.{Run}
 use Rattle.turboshake.specs.declared.TurboShake128.{TurboShake128}
 use Rattle.turboshake.specs.declared.Answer128.{Answer128}

@@ -8,7 +8,7 @@ use lib.Dec.{eqb, leb}
 use Rattle.sponge.specs.Status.{done, inputTooLong, outputTooLong}
 use Rattle.sponge.specs.Transcript.{lent}
 use Rattle.turboshake.specs.Published.{turboshake128}
-use Rattle.turboshake.specs.Model.{limit}
+use Rattle.turboshake.specs.Transcript.{limit}
 
 -- pieces of no bytes: a number of the benchmark's own
 abbrev pub badStep : ℕ

@@ -1,6 +1,6 @@
 // Bytes in and out of one block of the state: whole lanes at once, and what is ragged at both ends apart.
 ghost use mathlib.Core.Path.{_≡_};
-ghost use Prim.Native.Nat.{ℕ, _+_, _*_, _%_, _<_, _≤_};
+ghost use Prim.Native.Nat.{_+_, _*_, _%_, _<_, _≤_};
 ghost use lib.ListN.{length, take, drop};
 ghost use Rattle.keccak.specs.State.{byteAt, word};
 ghost use Rattle.sponge.specs.Cut.{puts};

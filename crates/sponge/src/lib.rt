@@ -6,12 +6,11 @@ mod block;
 pub mod status;
 
 ghost use mathlib.Core.Path.{_≡_};
-ghost use mathlib.Core.Bool.{Bool, true};
-ghost use Prim.Native.Nat.{ℕ, _<_, _≤_, min};
+ghost use Prim.Native.Nat.{_<_, _≤_, min};
 ghost use lib.ListN.{length};
 ghost use Rattle.keccak.specs.Permutation.{permuted};
-ghost use Rattle.sponge.specs.Waiting.{At, ready};
-ghost use Rattle.sponge.specs.Model.{Sponge, absorbBytes, squeezeBytes, afterBytes, valid, Outcome};
+ghost use Rattle.sponge.specs.Waiting.{ready};
+ghost use Rattle.sponge.specs.Model.{absorbBytes, squeezeBytes, afterBytes, valid};
 ghost use Rattle.sponge.specs.Model as model;
 ghost use Rattle.sponge.specs.Status.{unreachable};
 

@@ -19,7 +19,8 @@ use Rattle.sponge.proofs.Valid.{absorb-done, pad-done, squeeze-done}
 use Rattle.sponge.proofs.Valid.{output-done as valid-output}
 use Rattle.sponge.proofs.Joining.{perform-done, perform-refused}
 use Rattle.sponge.proofs.Reachable.{Shape}
-use Rattle.turboshake.specs.Model.{limit, domainStatus, rules, reachable, machine, seen, held, answerOf, outputOf}
+use Rattle.turboshake.specs.Transcript.{limit, domainStatus, rules}
+use Rattle.turboshake.specs.Model.{reachable, machine, seen, held, answerOf, outputOf}
 use Rattle.turboshake.specs.declared.Run.{Run}
 use Rattle.turboshake.proofs.Laws.{positions, due, shape, first-is}
 

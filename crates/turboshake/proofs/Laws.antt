@@ -23,7 +23,8 @@ use Rattle.sponge.proofs.Streaming.{cond-zero, Fits, Laws}
 use Rattle.sponge.proofs.Joining.{Stays}
 use Rattle.sponge.proofs.Reachable.{Shape}
 use Rattle.turboshake.specs.Published.{turboshake}
-use Rattle.turboshake.specs.Model.{limit, rules, reachable, machine}
+use Rattle.turboshake.specs.Transcript.{limit, rules}
+use Rattle.turboshake.specs.Model.{reachable, machine}
 
 -- the position in the block, and what it has to be
 abbrev pub positions : Sponge → List ℕ

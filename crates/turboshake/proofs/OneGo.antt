@@ -15,7 +15,8 @@ use Rattle.sponge.proofs.Published.{squeeze-sponge}
 use Rattle.sponge.proofs.Position.{steps-position}
 use Rattle.sponge.proofs.Valid.{fits-valid, absorb-done, pad-done, squeeze-done, output-done, zero-lanes, pad-position}
 use Rattle.turboshake.specs.Published.{turboshake}
-use Rattle.turboshake.specs.Model.{limit, domainStatus, hashStatus, hashOutput}
+use Rattle.turboshake.specs.Transcript.{limit, domainStatus}
+use Rattle.turboshake.specs.Model.{hashStatus, hashOutput}
 use Rattle.turboshake.proofs.Cases.{position-le}
 
 -- ---- the status

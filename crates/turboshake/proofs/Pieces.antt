@@ -14,7 +14,8 @@ use Rattle.sponge.specs.Runs.{runOf}
 use Rattle.sponge.proofs.Streaming.{Fits, performs}
 use Rattle.sponge.proofs.Joining.{transcribe-done, transcribe-refused}
 use Rattle.turboshake.specs.Published.{turboshake}
-use Rattle.turboshake.specs.Model.{limit, domainStatus, rules, machine, held, freshOf, Answer, answerOf, outputOf}
+use Rattle.turboshake.specs.Transcript.{limit, domainStatus, rules}
+use Rattle.turboshake.specs.Model.{machine, held, freshOf, Answer, answerOf, outputOf}
 use Rattle.turboshake.specs.declared.Run.{Run}
 use Rattle.turboshake.proofs.Laws.{laws}
 

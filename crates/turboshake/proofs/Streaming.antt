@@ -16,7 +16,8 @@ use Rattle.sponge.specs.Streaming.{History, history, Streaming, told, ran}
 use Rattle.sponge.proofs.Streaming as generic
 use Rattle.sponge.proofs.Joining as joining
 use Rattle.sponge.proofs.Reachable.{Reached, reachable-reached, reached-reachable, status-five, five-status}
-use Rattle.turboshake.specs.Model.{limit, domainStatus, rules, machine, held, freshOf, answerOf, replyOf}
+use Rattle.turboshake.specs.Transcript.{limit, domainStatus, rules}
+use Rattle.turboshake.specs.Model.{machine, held, freshOf, answerOf, replyOf}
 use Rattle.turboshake.specs.declared.Run as code
 use Rattle.turboshake.proofs.Laws.{positions, due, shape, shaped, laws, stays}
 

@@ -1,2 +1,3 @@
 pub mod Published
+pub mod Transcript
 pub mod Model

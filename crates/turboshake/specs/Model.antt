@@ -8,29 +8,18 @@ use lib.Dec.{eqb, leb}
 use Rattle.keccak.specs.Permutation.{permuted}
 use Rattle.sponge.specs.Waiting.{positionAfter}
 use Rattle.sponge.specs.Model.{Sponge, fresh, absorbBytes, pad, squeezeBytes, afterBytes}
-use Rattle.sponge.specs.Status.{done, badDomain, inputTooLong, outputTooLong, badLength, firstOf}
-use Rattle.sponge.specs.Transcript.{Call, Call.squeeze, Rules, Reply, lent}
+use Rattle.sponge.specs.Status.{done, inputTooLong, outputTooLong, badLength, firstOf}
+use Rattle.sponge.specs.Transcript.{Call, Call.squeeze, Reply, lent}
 use Rattle.sponge.specs.Runs as runs
 use Rattle.sponge.specs.Runs.{Machine, freshRun, perform}
 use Rattle.turboshake.specs.Published.{turboshake}
+use Rattle.turboshake.specs.Transcript.{limit, domainStatus, rules}
 use Rattle.turboshake.specs.declared.Run.{Run}
 use Rattle.turboshake.specs.declared.Moved.{Moved}
 use Rattle.turboshake.specs.declared.TurboShake128.{TurboShake128}
 use Rattle.turboshake.specs.declared.Answer128.{Answer128}
 use Rattle.turboshake.specs.declared.TurboShake256.{TurboShake256}
 use Rattle.turboshake.specs.declared.Answer256.{Answer256}
-
--- the most bytes that are absorbed, and squeezed
-abbrev pub limit : ℕ
-limit = 4294967295
-
--- the domain separation byte is 01 to 7F
-unfoldable pub domainStatus : ℕ → ℕ
-domainStatus d = cond (leb 1 d && leb d 0x7F) done badDomain
-
--- the transcript's side: the published function, the refusal of D, the limits
-unfoldable pub rules : ℕ → Rules ℕ
-rules rate = record { output = turboshake rate; argument = domainStatus; inputLimit = limit; outputLimit = limit }
 
 -- what a run reached from a fresh one has: in phase 0 nothing is squeezed and the position tells the bytes absorbed, in phase 1
 -- it tells the bytes squeezed; lanes are not looked at
@@ -40,7 +29,7 @@ reachable rate position phase absorbed squeezed =
     && cond (eqb phase 0) (eqb squeezed 0 && eqb position (positionAfter rate absorbed))
     (eqb phase 1 && (leb squeezed limit && eqb position (positionAfter rate squeezed)))
 
--- the run's side
+-- what becomes of a sponge, and the test of status 5
 unfoldable pub machine : ℕ → Machine Sponge ℕ
 machine rate = record {
   fresh = fresh;
@@ -71,28 +60,28 @@ pub record Answer : Type 0 where
 unfoldable pub answerOf : ℕ → Run → Call ℕ → Answer
 answerOf rate r c = record { status = perform (rules rate) (machine rate) (seen r) c .status; run = held (perform (rules rate) (machine rate) (seen r) c .left) }
 
--- the same with the bytes given: what a list of calls on the code's runs is made of
+-- the answer with the bytes given: what a list of calls on the code's runs is made of
 unfoldable pub replyOf : ℕ → Run → Call ℕ → Reply Run
 replyOf rate r c = record { status = answerOf rate r c .status; bytes = perform (rules rate) (machine rate) (seen r) c .bytes; left = answerOf rate r c .run }
 
--- the same from a run's parts
+-- a run and an answer from their parts
 abbrev pub runWith : List ℕ → ℕ → ℕ → ℕ → ℕ → Run
 runWith lanes position phase absorbed squeezed = record { lanes = lanes; position = position; phase = phase; absorbed = absorbed; squeezed = squeezed }
 
 abbrev pub answered : Moved → List ℕ → Answer
 answered m lanes = record { status = m .status; run = runWith lanes (m .position) (m .phase) (m .absorbed) (m .squeezed) }
 
--- what the lent output holds after a squeeze, which held `out` before
-unfoldable pub outputOf : ℕ → Run → List ℕ → List ℕ
-outputOf rate r out =
-    lent (perform (rules rate) (machine rate) (seen r) (squeeze (length out)) .status) (perform (rules rate) (machine rate) (seen r) (squeeze (length out)) .bytes) out
-
--- the same in the types of each strength, which differ in their names and the rate
+-- a call's answer in the types of each strength, which differ in their names and the rate
 abbrev pub answer128 : TurboShake128 → Call ℕ → Answer128
 answer128 h c = record { status = answerOf 168 (h .run) c .status; hasher = record { run = answerOf 168 (h .run) c .run } }
 
 abbrev pub answer256 : TurboShake256 → Call ℕ → Answer256
 answer256 h c = record { status = answerOf 136 (h .run) c .status; hasher = record { run = answerOf 136 (h .run) c .run } }
+
+-- what the lent output holds after a squeeze, which held `out` before
+unfoldable pub outputOf : ℕ → Run → List ℕ → List ℕ
+outputOf rate r out =
+    lent (perform (rules rate) (machine rate) (seen r) (squeeze (length out)) .status) (perform (rules rate) (machine rate) (seen r) (squeeze (length out)) .bytes) out
 
 -- ---- in one go
 

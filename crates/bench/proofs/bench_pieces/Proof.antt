@@ -3,7 +3,7 @@ use Prim.Native.Nat.{_+_, _-_, _≤_, _<_}
 use native.Mathlib.Omega.{arith}
 use borrow.Author.Needs.{needs}
 use lib.ListN.{length, take}
-use Rattle.turboshake.specs.Model.{limit}
+use Rattle.turboshake.specs.Transcript.{limit}
 use Rattle.bench.proofs.Pieces.{pieces-9, pieces-2, Holds, holds-fresh, piece-done, piece-long, same-part, fits-limit, passes-limit, whole, row}
 use Rattle.bench.proofs.bench_pieces.Statement.{statement}
 use Rattle.bench.proofs.bench_pieces.Tie as tie

@@ -7,7 +7,8 @@ use borrow.Author.Tests.{not-true, not-false}
 use Rattle.sponge.specs.Model.{valid}
 use Rattle.sponge.specs.Transcript.{Call.absorb}
 use Rattle.sponge.proofs.Valid.{fits-valid}
-use Rattle.turboshake.specs.Model.{limit, reachable, runWith, answered}
+use Rattle.turboshake.specs.Transcript.{limit}
+use Rattle.turboshake.specs.Model.{reachable, runWith, answered}
 use Rattle.turboshake.specs.declared.Run.{Run}
 use Rattle.turboshake.specs.declared.Moved.{Moved}
 use Rattle.turboshake.proofs.Cases.{fits, status-5, absorb-3, absorb-2, absorb-0, answer-refused, absorb-answer}

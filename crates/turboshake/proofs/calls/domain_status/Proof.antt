@@ -1,5 +1,5 @@
 use borrow.Author.Tests.{le-leb, lt-leb}
-use Rattle.turboshake.specs.Model.{domainStatus}
+use Rattle.turboshake.specs.Transcript.{domainStatus}
 use Rattle.turboshake.proofs.calls.domain_status.Statement.{statement}
 use Rattle.turboshake.proofs.calls.domain_status.Tie as tie
 use Rattle.turboshake.proofs.calls.domain_status.Reads as reads

@@ -6,7 +6,8 @@ use borrow.Author.Tests.{not-true, not-false}
 use Rattle.sponge.specs.Model.{valid}
 use Rattle.sponge.specs.Transcript.{Call.finalize}
 use Rattle.sponge.proofs.Valid.{fits-valid}
-use Rattle.turboshake.specs.Model.{limit, reachable, runWith, answered}
+use Rattle.turboshake.specs.Transcript.{limit}
+use Rattle.turboshake.specs.Model.{reachable, runWith, answered}
 use Rattle.turboshake.specs.declared.Run.{Run}
 use Rattle.turboshake.specs.declared.Moved.{Moved}
 use Rattle.turboshake.proofs.Cases.{fits, status-5, finalize-3, finalize-d, answer-refused, answer-other, finalize-answer}

@@ -1,5 +1,5 @@
 use mathlib.Core.Path.{_≡_, sym, _∙_}
-use Rattle.turboshake.specs.Model.{domainStatus}
+use Rattle.turboshake.specs.Transcript.{domainStatus}
 use Rattle.turboshake.proofs.OneGo.{hash-1, hash-2, hash-7, hash-6, hash-0}
 use borrow.Author.Needs.{needs}
 use Rattle.turboshake.proofs.calls.hash_status.Statement.{statement}

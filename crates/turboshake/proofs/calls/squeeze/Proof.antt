@@ -8,7 +8,8 @@ use borrow.Author.Tests.{not-true, not-false}
 use Rattle.sponge.specs.Model.{valid}
 use Rattle.sponge.specs.Transcript.{Call.squeeze}
 use Rattle.sponge.proofs.Valid.{fits-valid}
-use Rattle.turboshake.specs.Model.{limit, reachable, runWith, answered}
+use Rattle.turboshake.specs.Transcript.{limit}
+use Rattle.turboshake.specs.Model.{reachable, runWith, answered}
 use Rattle.turboshake.specs.declared.Run.{Run}
 use Rattle.turboshake.specs.declared.Moved.{Moved}
 use Rattle.turboshake.proofs.Cases.{fits, status-5, squeeze-3, squeeze-6, squeeze-0, answer-refused, output-refused, squeeze-answer, squeeze-written}

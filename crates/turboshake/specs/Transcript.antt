@@ -1,0 +1,20 @@
+-- What the transcript of a run, document 01's book, says of TurboSHAKE, over the rate.
+-- Assumes nothing.
+use mathlib.Core.Bool.{cond, _&&_}
+use Prim.Native.Nat.{ℕ}
+use lib.Dec.{leb}
+use Rattle.sponge.specs.Status.{done, badDomain}
+use Rattle.sponge.specs.Transcript.{Rules}
+use Rattle.turboshake.specs.Published.{turboshake}
+
+-- the most bytes that are absorbed, and squeezed
+abbrev pub limit : ℕ
+limit = 4294967295
+
+-- the domain separation byte is 01 to 7F
+unfoldable pub domainStatus : ℕ → ℕ
+domainStatus d = cond (leb 1 d && leb d 0x7F) done badDomain
+
+-- the published function, the status of D, and the limits
+unfoldable pub rules : ℕ → Rules ℕ
+rules rate = record { output = turboshake rate; argument = domainStatus; inputLimit = limit; outputLimit = limit }
