@@ -10,6 +10,7 @@ pub mod Valid
 pub mod Streaming
 pub mod Joining
 pub mod Reachable
+pub mod Corollaries
 mod Words
 mod Output
 mod Blocks

@@ -17,6 +17,10 @@ inputTooLong = 2
 abbrev pub wrongPhase : ℕ
 wrongPhase = 3
 
+-- the customization string is longer than its limit
+abbrev pub customizationTooLong : ℕ
+customizationTooLong = 4
+
 -- no run reached from a fresh one has this phase, these totals and this position
 abbrev pub unreachable : ℕ
 unreachable = 5

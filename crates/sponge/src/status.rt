@@ -7,6 +7,8 @@ pub const INPUT_TOO_LONG: u8 = 2;
 
 pub const WRONG_PHASE: u8 = 3;
 
+pub const CUSTOMIZATION_TOO_LONG: u8 = 4;
+
 pub const UNREACHABLE: u8 = 5;
 
 pub const OUTPUT_TOO_LONG: u8 = 6;

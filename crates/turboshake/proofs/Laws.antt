@@ -17,14 +17,14 @@ use Rattle.sponge.specs.Transcript.{Call, Call.absorb, Call.finalize, Call.sque
 use Rattle.sponge.specs.Runs.{Run, worked, runOf}
 use Rattle.sponge.proofs.Waiting.{steps-append}
 use Rattle.sponge.proofs.Position.{steps-position, after-position}
-use Rattle.sponge.proofs.Published.{after-add, squeeze-add, length-squeeze, squeeze-sponge}
+use Rattle.sponge.proofs.Published.{after-add, squeeze-add, length-squeeze}
 use Rattle.sponge.proofs.Valid.{pad-position}
 use Rattle.sponge.proofs.Streaming.{cond-zero, Fits, Laws}
 use Rattle.sponge.proofs.Joining.{Stays}
 use Rattle.sponge.proofs.Reachable.{Shape}
-use Rattle.turboshake.specs.Published.{turboshake}
 use Rattle.turboshake.specs.Transcript.{limit, rules}
 use Rattle.turboshake.specs.Model.{reachable, machine}
+use Rattle.turboshake.proofs.Published.{squeeze-turboshake}
 
 -- the position in the block, and what it has to be
 abbrev pub positions : Sponge → List ℕ
@@ -110,7 +110,7 @@ module _ (rate : ℕ) where
     absorb-joins n s p q = steps-append permuted xorByte rate s p q
 
     pub laws : Laws (rules rate) (machine rate)
-    unfolding rules machine turboshake
+    unfolding rules machine
     laws = record {
       absorb-nothing = λ n s. refl;
       absorb-append = absorb-joins;
@@ -118,7 +118,7 @@ module _ (rate : ℕ) where
       after-add = after-add permuted rate pos;
       squeeze-add = squeeze-add permuted rate pos;
       squeeze-length = length-squeeze permuted rate pos;
-      squeeze-output = squeeze-sponge permuted rate pos;
+      squeeze-output = squeeze-turboshake rate pos;
       run-reachable = λ t h. shaped (runOf (rules rate) (machine rate) t) (reaches (t .absorbed) (t .phase) (t .squeezed) h);
     }
 

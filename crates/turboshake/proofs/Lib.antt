@@ -1,3 +1,4 @@
+pub mod Published
 pub mod Laws
 pub mod Streaming
 pub mod Pieces

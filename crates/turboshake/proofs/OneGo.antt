@@ -11,12 +11,12 @@ use Rattle.sponge.specs.Published.{xorByte}
 use Rattle.sponge.specs.Transcript.{lent}
 use Rattle.sponge.specs.Model.{Sponge, fresh, absorbBytes, pad, squeezeBytes, valid, Outcome, absorbCall, padCall, squeezeCall, squeezeOutput}
 use Rattle.sponge.proofs.FirstStatus.{first-refused}
-use Rattle.sponge.proofs.Published.{squeeze-sponge}
 use Rattle.sponge.proofs.Position.{steps-position}
 use Rattle.sponge.proofs.Valid.{fits-valid, absorb-done, pad-done, squeeze-done, output-done, zero-lanes, pad-position}
 use Rattle.turboshake.specs.Published.{turboshake}
 use Rattle.turboshake.specs.Transcript.{limit, domainStatus}
 use Rattle.turboshake.specs.Model.{hashStatus, hashOutput}
+use Rattle.turboshake.proofs.Published.{squeeze-turboshake}
 use Rattle.turboshake.proofs.Cases.{position-le}
 
 -- ---- the status
@@ -87,7 +87,6 @@ module _ (rate : ℕ) (pos : 0 < rate) (most : rate ≤ 200) (m : List ℕ) (d :
   row-done = ap (λ (u : Outcome). u .status) (squeezes ∙ squeeze-done permuted rate (p .state) ok (length out))
 
   pub row-written : r ≡ turboshake rate m d (length out)
-  unfolding turboshake
   row-written =
       writes ∙ output-done permuted rate (p .state) ok out ∙ ap (squeezeBytes permuted rate (length out)) padded
-      ∙ squeeze-sponge permuted rate pos m d (length out)
+      ∙ squeeze-turboshake rate pos m d (length out)

@@ -1,0 +1,97 @@
+-- What a function has once its machine meets `Laws` and `Stays` and its test of status 5 says what `Shape` says: the list theorem,
+-- what follows from it, refusals, and both directions of status 5, as one record.
+-- Assumes nothing.
+use mathlib.Core.Path.{_≡_, refl, sym, ap, _∙_, subst}
+use mathlib.Core.List.{List, [], _∷_, _++_}
+use mathlib.Core.Bool.{Bool, true, false, cond}
+use Prim.Native.Nat.{ℕ, suc, _+_, _≤_}
+use lib.ListN.{length}
+use lib.Dec.{T, eqb}
+use Rattle.sponge.specs.Status.{unreachable}
+use Rattle.sponge.specs.Transcript.{Call, Call.absorb, Call.squeeze, Rules, Reply}
+use Rattle.sponge.specs.Runs.{Run, Machine, perform}
+use Rattle.sponge.specs.Streaming.{History, history, Streaming, told, ran}
+use Rattle.sponge.proofs.Streaming as generic
+use Rattle.sponge.proofs.Joining as joining
+use Rattle.sponge.proofs.Reachable.{Reached, Shape, reachable-reached, reached-reachable, status-five, five-status}
+
+-- ---- what is claimed
+
+module _ {S A : Type 0} (U : Rules A) (M : Machine S A) (positions : S → List ℕ) where
+  -- calls in a row on any run that 5 does not refuse, reached or not
+  pub record Joins : Type 0 where
+    pub absorb-absorb : (r : Run S) (a b : List ℕ) → M .reachable r ≡ true → r .phase ≡ 0 → r .absorbed + length (a ++ b) ≤ U .inputLimit
+        → perform U M (perform U M r (absorb a) .left) (absorb b) ≡ perform U M r (absorb (a ++ b))
+    pub absorb-nothing : (r : Run S) → M .reachable r ≡ true → r .phase ≡ 0 → perform U M r (absorb []) ≡ record { status = 0; bytes = []; left = r }
+    pub squeeze-squeeze : (r : Run S) (m n : ℕ) → M .reachable r ≡ true → r .phase ≡ 1 → r .squeezed + (m + n) ≤ U .outputLimit
+        → record {
+          status = perform U M (perform U M r (squeeze m) .left) (squeeze n) .status;
+          bytes = perform U M r (squeeze m) .bytes ++ perform U M (perform U M r (squeeze m) .left) (squeeze n) .bytes;
+          left = perform U M (perform U M r (squeeze m) .left) (squeeze n) .left;
+        } ≡ perform U M r (squeeze (m + n))
+    pub squeeze-nothing : (r : Run S) → M .reachable r ≡ true → r .phase ≡ 1 → perform U M r (squeeze 0) ≡ record { status = 0; bytes = []; left = r }
+
+  -- a refused call hands back the run that it got and gives no byte; a done absorb grew the total by the piece's length
+  pub record Refusals : Type 0 where
+    pub refused : (r : Run S) (c : Call A) (n : ℕ) → perform U M r c .status ≡ suc n → (perform U M r c .left ≡ r) × (perform U M r c .bytes ≡ [])
+    pub absorb-grows : (r : Run S) (p : List ℕ) → perform U M r (absorb p) .status ≡ 0 → perform U M r (absorb p) .left .absorbed ≡ r .absorbed + length p
+
+  -- status 5 exactly when no list of calls from a fresh run reaches this phase, these totals and these positions
+  pub record Five : Type 0 where
+    pub five-unreached : (r : Run S) (c : Call A) → perform U M r c .status ≡ unreachable → Reached U M positions r → ⊥
+    pub unreached-five : (r : Run S) (c : Call A) → (Reached U M positions r → ⊥) → perform U M r c .status ≡ unreachable
+
+  pub record Corollaries : Type 0 where
+    pub streaming : (cs : List (Call A)) → Streaming U M cs
+    pub equal-transcripts : (cs ds : List (Call A)) → told U M cs .left ≡ told U M ds .left → ran U M cs .left ≡ ran U M ds .left
+    pub joins : Joins
+    pub refusals : Refusals
+    pub five : Five
+
+-- ---- the proof, once for every function; a is a finalize's argument that is taken, and no argument answers 5
+
+module _ {S A : Type 0} (U : Rules A) (M : Machine S A) (L : generic.Laws U M) (stays : joining.Stays U M) (positions : S → List ℕ) (due : ℕ → ℕ → ℕ → List ℕ)
+    (shape : (r : Run S) → M .reachable r ≡ true → Shape U positions due r) (shaped : (r : Run S) → Shape U positions due r → M .reachable r ≡ true)
+    (a : A) (taken : U .argument a ≡ 0) (other : (a : A) → U .argument a ≡ unreachable → ⊥) where
+  squeeze-nothing : (r : Run S) → M .reachable r ≡ true → r .phase ≡ 1 → perform U M r (squeeze 0) ≡ record { status = 0; bytes = []; left = r }
+  squeeze-nothing r h o =
+      let fits : r .squeezed ≤ U .outputLimit = subst (λ (p : ℕ). r .squeezed ≤ cond (eqb p 0) 0 (U .outputLimit)) o (shape r h .squeezed-fits) in
+      joining.squeeze-nothing U M L stays r h o fits
+
+  joins : Joins U M positions
+  joins = record {
+    absorb-absorb = joining.absorb-absorb U M L stays;
+    absorb-nothing = λ r h o. joining.absorb-nothing U M L stays r h o (shape r h .absorbed-fits);
+    squeeze-squeeze = joining.squeeze-squeeze U M L stays;
+    squeeze-nothing = squeeze-nothing;
+  }
+
+  five-unreached : (r : Run S) (c : Call A) → perform U M r c .status ≡ unreachable → Reached U M positions r → ⊥
+  five-unreached r c e g = subst T (sym (reached-reachable U M L positions due shape shaped r g) ∙ status-five U M other r c e) tt
+
+  unreached-five : (r : Run S) (c : Call A) → (Reached U M positions r → ⊥) → perform U M r c .status ≡ unreachable
+  unreached-five r c g = by (M .reachable r) refl
+    where
+      by : (t : Bool) → M .reachable r ≡ t → perform U M r c .status ≡ unreachable
+      by true e = absurd (g (reachable-reached U M L positions due shape shaped a taken r e))
+      by false e = five-status U M other r c e
+
+  pub corollaries : Corollaries U M positions
+  corollaries = record {
+    streaming = generic.streaming U M L;
+    equal-transcripts = joining.equal-transcripts U M L;
+    joins = joins;
+    refusals = record { refused = joining.refused U M; absorb-grows = joining.absorb-grows U M };
+    five = record { five-unreached = five-unreached; unreached-five = unreached-five };
+  }
+
+-- ---- a list of calls on runs held in another form: g does to `held x` what f does to x
+
+module _ {A X R : Type 0} (f : X → Call A → Reply X) (g : R → Call A → Reply R) (held : X → R)
+    (same : (x : X) (c : Call A) → g (held x) c ≡ record { status = f x c .status; bytes = f x c .bytes; left = held (f x c .left) }) where
+  pub history-held : (cs : List (Call A)) (x : X)
+      → history g (held x) cs ≡ record { statuses = history f x cs .statuses; bytes = history f x cs .bytes; left = held (history f x cs .left) }
+  history-held [] x = refl
+  history-held (c ∷ cs) x =
+      ap (λ (y : Reply R). record { statuses = y .status ∷ history g (y .left) cs .statuses; bytes = y .bytes ∷ history g (y .left) cs .bytes; left = history g (y .left) cs .left }) (same x c)
+      ∙ ap (λ (h : History R). record { statuses = f x c .status ∷ h .statuses; bytes = f x c .bytes ∷ h .bytes; left = h .left }) (history-held cs (f x c .left))
