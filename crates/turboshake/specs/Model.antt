@@ -7,8 +7,8 @@ use lib.ListN.{length}
 use lib.Dec.{eqb, leb}
 use Rattle.keccak.specs.Permutation.{permuted}
 use Rattle.sponge.specs.Waiting.{positionAfter}
-use Rattle.sponge.specs.Model.{Sponge, fresh, absorbBytes, pad, squeezeBytes, afterBytes}
-use Rattle.sponge.specs.Status.{done, inputTooLong, outputTooLong, badLength, firstOf}
+use Rattle.sponge.specs.Model.{Sponge, fresh, absorbBytes, pad, squeezeBytes, afterBytes, valid}
+use Rattle.sponge.specs.Status.{done, inputTooLong, unreachable, outputTooLong, badLength, firstOf}
 use Rattle.sponge.specs.Transcript.{Call, Call.squeeze, Reply, lent}
 use Rattle.sponge.specs.Runs as runs
 use Rattle.sponge.specs.Runs.{Machine, freshRun, perform}
@@ -95,3 +95,10 @@ hashStatus m d n =
 -- what the lent output holds after the call
 unfoldable pub hashOutput : ℕ → List ℕ → ℕ → List ℕ → List ℕ
 hashOutput rate m d out = lent (hashStatus (length m) d (length out)) (turboshake rate m d (length out)) out
+
+-- at any rate: 5 before all others for what is no rate
+unfoldable pub hashAtStatus : ℕ → ℕ → ℕ → ℕ → ℕ
+hashAtStatus rate m d n = firstOf (cond (valid rate 0) done unreachable) (hashStatus m d n)
+
+unfoldable pub hashAtOutput : ℕ → List ℕ → ℕ → List ℕ → List ℕ
+hashAtOutput rate m d out = lent (hashAtStatus rate (length m) d (length out)) (turboshake rate m d (length out)) out

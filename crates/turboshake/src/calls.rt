@@ -6,6 +6,7 @@ ghost use Rattle.sponge.specs.Waiting.{positionAfter};
 ghost use Rattle.sponge.specs.Transcript.{Call};
 ghost use Rattle.turboshake.specs.Transcript.{domainStatus};
 ghost use Rattle.turboshake.specs.Model.{reachable, freshOf, runWith, answered, answerOf, outputOf, hashStatus, hashOutput};
+use crate::LIMIT;
 use crate::Moved;
 use crate::Run;
 use sponge::status;
@@ -13,9 +14,6 @@ use sponge::status;
 const ABSORBING: u8 = 0;
 
 const SQUEEZING: u8 = 1;
-
-// The most bytes that are absorbed, and squeezed.
-const LIMIT: u64 = 4294967295;
 
 // The position after n bytes: a full block is left full.
 fn position_after(rate: usize, n: u64) -> usize

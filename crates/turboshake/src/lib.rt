@@ -6,7 +6,11 @@ mod calls;
 ghost use mathlib.Core.Path.{_≡_};
 ghost use lib.ListN.{length};
 ghost use Rattle.sponge.specs.Transcript.{Call};
-ghost use Rattle.turboshake.specs.Model.{freshOf, answer128, answer256, outputOf, hashStatus, hashOutput};
+ghost use Rattle.turboshake.specs.Model.{freshOf, answer128, answer256, outputOf, hashStatus, hashOutput, hashAtStatus, hashAtOutput};
+use sponge::status;
+
+// The most bytes that are absorbed, and squeezed.
+pub const LIMIT: u64 = 4294967295;
 
 // A run: document 01's fixed-size state with its place, phase (0 absorbing, 1 squeezing), bytes fed and bytes read.
 pub struct Run {
@@ -251,4 +255,18 @@ impl TurboShake256 {
     {
         calls::hash(Self::RATE, message, domain, out)
     }
+}
+
+// In one go at a rate of 1 to 200 bytes, for the nodes of a tree above. Any other rate is refused with 5.
+pub fn hash_at_rate(rate: usize, message: &[u8], domain: u8, out: &mut [u8]) -> u8
+    ensures { λ r. ⌜ r ≡ hashAtStatus rate (length (now (message .entry))) domain (length (now (out .entry))) ⌝ }
+    ensures { λ r. ⌜ now (out .exit) ≡ hashAtOutput rate (now (message .entry)) domain (now (out .entry)) ⌝ }
+{
+    if rate < 1 {
+        return status::UNREACHABLE;
+    }
+    if 200 < rate {
+        return status::UNREACHABLE;
+    }
+    calls::hash(rate, message, domain, out)
 }
