@@ -1,17 +1,16 @@
 -- The steps of the loops over blocks: a full block is permuted, then bytes go in or out that the block has room for.
 -- Assumes nothing.
-use mathlib.Core.Path.{_≡_, sym, ap, _∙_}
-use mathlib.Core.List.{List, [], _∷_}
+use mathlib.Core.Path.{_≡_, sym, _∙_}
+use mathlib.Core.List.{List}
 use Prim.Native.Nat.{ℕ, zero, suc, _+_, _-_, _<_, _≤_}
 use native.Mathlib.Omega.{arith}
-use lib.ListN.{length, take, drop, length-drop, drop-of-length-le, take-append-drop}
-use lib.Seq.{length-take-le, drop-drop}
+use lib.ListN.{length, take, drop}
 use borrow.Author.Tests.{eq-eqb, ne-eqb}
 use Rattle.sponge.specs.Cut.{puts}
 use Rattle.sponge.specs.Published.{xorByte, bytesFrom}
 use Rattle.sponge.specs.Waiting.{ready}
 use Rattle.sponge.specs.Model.{Sponge, absorbBytes, pad, squeezeBytes, afterBytes}
-use Rattle.sponge.proofs.Waiting.{steps-append, steps-in}
+use Rattle.sponge.proofs.Waiting.{steps-part, steps-done}
 use Rattle.sponge.proofs.Published.{squeeze-in, after-in}
 
 module _ (P : List ℕ → List ℕ) (rate : ℕ) where
@@ -29,19 +28,7 @@ module _ (P : List ℕ → List ℕ) (rate : ℕ) where
     -- k bytes of s from index i on, which the block has room for
     pub absorb-part : (piece : List ℕ) (i k : ℕ) → i < length piece → at + k ≤ rate → i + k ≤ length piece
         → absorbBytes P rate (record { value = puts xorByte v at (take k (drop i piece)); position = at + k }) (drop (i + k) piece) ≡ absorbBytes P rate s (drop i piece)
-    absorb-part piece i k hi hk hl =
-        let n : length (take k (drop i piece)) ≡ k = length-take-le k (drop i piece) (simp length-drop (omega arith)) in
-        let room : at + length (take k (drop i piece)) ≤ rate = omega arith in
-        ap (λ (j : ℕ). absorbBytes P rate (record { value = puts xorByte v at (take k (drop i piece)); position = at + j }) (drop (i + k) piece)) (sym n)
-        ∙ ap (λ (t : Sponge). absorbBytes P rate t (drop (i + k) piece)) (sym (steps-in P xorByte rate v at (take k (drop i piece)) room))
-        ∙ ap (absorbBytes P rate (absorbBytes P rate (record { value = v; position = at }) (take k (drop i piece)))) (sym (drop-drop k i piece))
-        ∙ sym (steps-append P xorByte rate (record { value = v; position = at }) (take k (drop i piece)) (drop k (drop i piece)))
-        ∙ ap (absorbBytes P rate (record { value = v; position = at })) (take-append-drop k (drop i piece))
-        ∙ sym (first (drop i piece) (simp length-drop (omega arith)))
-      where
-        first : (t : List ℕ) → 0 < length t → absorbBytes P rate s t ≡ absorbBytes P rate (record { value = v; position = at }) t
-        first [] g = absurd (let z : 1 ≤ 0 = g in omega arith)
-        first (b ∷ t) g = rw again
+    absorb-part = steps-part P xorByte rate s (record { value = v; position = at }) e h
 
     -- k bytes that the block still has
     pub squeeze-part : (k : ℕ) → 0 < k → at + k ≤ rate → squeezeBytes P rate k s ≡ bytesFrom v at k
@@ -65,4 +52,4 @@ module _ (P : List ℕ → List ℕ) (rate : ℕ) where
 
   -- no bytes are left
   pub absorb-done : (s : Sponge) (piece : List ℕ) (i : ℕ) → length piece ≤ i → absorbBytes P rate s (drop i piece) ≡ s
-  absorb-done s piece i h = ap (absorbBytes P rate s) (drop-of-length-le piece h)
+  absorb-done = steps-done P xorByte rate

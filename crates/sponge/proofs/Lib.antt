@@ -11,6 +11,7 @@ pub mod Streaming
 pub mod Joining
 pub mod Reachable
 pub mod Corollaries
+pub mod Answers
 mod Words
 mod Output
 mod Blocks

@@ -5,11 +5,11 @@ use mathlib.Core.List.{List, [], _∷_, _++_}
 use Prim.Native.Nat.{ℕ, zero, suc, _+_, _-_, _*_, _%_, _≤_, _<_}
 use native.Mathlib.Nat.{zero-add, suc-add, add-suc, add-zero, zero-mul, sub-zero, div-add-mod', mod-lt}
 use native.Mathlib.Omega.{arith}
-use lib.ListN.{length, take, drop, take-append-drop, length-drop}
-use lib.Seq.{take-all, length-take-le}
+use lib.ListN.{length, take, drop, take-append-drop, length-drop, drop-of-length-le}
+use lib.Seq.{take-all, length-take-le, drop-drop}
 use borrow.Author.Tests.{eq-eqb, ne-eqb}
 use Rattle.sponge.specs.Cut.{ceil, pieces, puts}
-use Rattle.sponge.specs.Waiting.{At, step, steps}
+use Rattle.sponge.specs.Waiting.{At, ready, step, steps}
 
 -- n bytes, n > 0, are held by q whole pieces and a last one of 1 to r bytes
 pub record Held (r n : ℕ) : Type 0 where
@@ -68,3 +68,28 @@ module _ {X : Type 0} (full : X → X) (put : X → ℕ → ℕ → X) (r : ℕ)
   steps-pieces p (suc n) x s lo hi =
       rw (steps-over p x s (omega arith), steps-pieces p n (full (puts put x 0 (take r s))) (drop r s) (simp length-drop (omega arith)) (simp length-drop (omega arith)))
       (let e : length (drop r s) - n * r ≡ length s - suc n * r = simp length-drop (omega arith) in rw e)
+
+  -- ---- a loop over the pieces: u is s after the test for a full piece, and k bytes of p from index i on have room in the piece
+
+  pub steps-part : (s u : At X) → u ≡ ready full r s → u .position < r → (p : List ℕ) (i k : ℕ) → i < length p → u .position + k ≤ r → i + k ≤ length p
+      → steps full put r (record { value = puts put (u .value) (u .position) (take k (drop i p)); position = u .position + k }) (drop (i + k) p) ≡ steps full put r s (drop i p)
+  steps-part s u e h p i k hi hk hl =
+      let n : length (take k (drop i p)) ≡ k = length-take-le k (drop i p) (simp length-drop (omega arith)) in
+      let room : u .position + length (take k (drop i p)) ≤ r = omega arith in
+      ap (λ (j : ℕ). steps full put r (record { value = puts put (u .value) (u .position) (take k (drop i p)); position = u .position + j }) (drop (i + k) p)) (sym n)
+      ∙ ap (λ (t : At X). steps full put r t (drop (i + k) p)) (sym (steps-in (u .value) (u .position) (take k (drop i p)) room))
+      ∙ ap (steps full put r (steps full put r u (take k (drop i p)))) (sym (drop-drop k i p))
+      ∙ sym (steps-append u (take k (drop i p)) (drop k (drop i p)))
+      ∙ ap (steps full put r u) (take-append-drop k (drop i p))
+      ∙ sym (first (drop i p) (simp length-drop (omega arith)))
+    where
+      again : ready full r s ≡ ready full r u
+      again = sym e ∙ rw (ne-eqb (u .position) r (λ e. omega arith))
+
+      first : (t : List ℕ) → 0 < length t → steps full put r s t ≡ steps full put r u t
+      first [] g = absurd (let z : 1 ≤ 0 = g in omega arith)
+      first (b ∷ t) g = rw again
+
+  -- no bytes are left
+  pub steps-done : (s : At X) (p : List ℕ) (i : ℕ) → length p ≤ i → steps full put r s (drop i p) ≡ s
+  steps-done s p i h = ap (steps full put r s) (drop-of-length-le p h)

@@ -6,7 +6,6 @@ use Prim.Native.Nat.{ℕ, zero, suc, _+_, _-_, _%_, _≤_, _<_, zero-le}
 use native.Mathlib.Nat.{mod-lt}
 use native.Mathlib.Numerals.{add-one}
 use native.Mathlib.Omega.{arith}
-use borrow.Author.Tests.{eq-eqb, ne-eqb, le-leb, lt-leb}
 use lib.Dec.{eqb}
 use lib.ListN.{length}
 use Rattle.sponge.specs.Waiting.{positionAfter}
@@ -18,6 +17,7 @@ use Rattle.sponge.specs.Runs as runs
 use Rattle.sponge.proofs.Valid.{absorb-done, pad-done, squeeze-done}
 use Rattle.sponge.proofs.Valid.{output-done as valid-output}
 use Rattle.sponge.proofs.Joining.{perform-done, perform-refused}
+use Rattle.sponge.proofs.Answers as answers
 use Rattle.sponge.proofs.Reachable.{Shape}
 use Rattle.turboshake.specs.Transcript.{limit, domainStatus, rules}
 use Rattle.turboshake.specs.Model.{reachable, machine, seen, held, answerOf, outputOf}
@@ -51,40 +51,40 @@ module _ (rate : ℕ) (r : Run) where
 
   pub status-5 : (c : Call ℕ) → reachable rate (r .position) (r .phase) (r .absorbed) (r .squeezed) ≡ false → status c ≡ 5
   unfolding machine status
-  status-5 c e = rw e
+  status-5 = answers.status-5 (rules rate) (machine rate) (seen r)
 
   module _ (e : reachable rate (r .position) (r .phase) (r .absorbed) (r .squeezed) ≡ true) where
     pub absorb-3 : (p : List ℕ) → (r .phase ≡ 0 → ⊥) → status (absorb p) ≡ 3
-    unfolding machine rules status
-    absorb-3 p f = rw (e, ne-eqb (r .phase) 0 f)
+    unfolding machine status
+    absorb-3 = answers.absorb-3 (rules rate) (machine rate) (seen r) e
 
     pub absorb-2 : (p : List ℕ) → r .phase ≡ 0 → limit < r .absorbed + length p → status (absorb p) ≡ 2
     unfolding machine rules status
-    absorb-2 p f g = rw (e, eq-eqb (r .phase) 0 f, lt-leb (r .absorbed + length p) limit g)
+    absorb-2 = answers.absorb-2 (rules rate) (machine rate) (seen r) e
 
     pub absorb-0 : (p : List ℕ) → r .phase ≡ 0 → r .absorbed + length p ≤ limit → status (absorb p) ≡ 0
     unfolding machine rules status
-    absorb-0 p f g = rw (e, eq-eqb (r .phase) 0 f, le-leb (r .absorbed + length p) limit g)
+    absorb-0 = answers.absorb-0 (rules rate) (machine rate) (seen r) e
 
     pub finalize-3 : (d : ℕ) → (r .phase ≡ 0 → ⊥) → status (finalize d) ≡ 3
-    unfolding machine rules status
-    finalize-3 d f = rw (e, ne-eqb (r .phase) 0 f)
+    unfolding machine status
+    finalize-3 = answers.finalize-3 (rules rate) (machine rate) (seen r) e
 
     pub finalize-d : (d : ℕ) → r .phase ≡ 0 → status (finalize d) ≡ domainStatus d
     unfolding machine rules status
-    finalize-d d f = rw (e, eq-eqb (r .phase) 0 f)
+    finalize-d = answers.finalize-argument (rules rate) (machine rate) (seen r) e
 
     pub squeeze-3 : (k : ℕ) → (r .phase ≡ 1 → ⊥) → status (squeeze k) ≡ 3
-    unfolding machine rules status
-    squeeze-3 k f = rw (e, ne-eqb (r .phase) 1 f)
+    unfolding machine status
+    squeeze-3 = answers.squeeze-3 (rules rate) (machine rate) (seen r) e
 
     pub squeeze-6 : (k : ℕ) → r .phase ≡ 1 → limit < r .squeezed + k → status (squeeze k) ≡ 6
     unfolding machine rules status
-    squeeze-6 k f g = rw (e, eq-eqb (r .phase) 1 f, lt-leb (r .squeezed + k) limit g)
+    squeeze-6 = answers.squeeze-6 (rules rate) (machine rate) (seen r) e
 
     pub squeeze-0 : (k : ℕ) → r .phase ≡ 1 → r .squeezed + k ≤ limit → status (squeeze k) ≡ 0
     unfolding machine rules status
-    squeeze-0 k f g = rw (e, eq-eqb (r .phase) 1 f, le-leb (r .squeezed + k) limit g)
+    squeeze-0 = answers.squeeze-0 (rules rate) (machine rate) (seen r) e
 
   -- ---- the answer, by the status
 

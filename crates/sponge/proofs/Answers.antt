@@ -1,0 +1,39 @@
+-- The status of each call on a run, case by case, for every function: what the proofs of code ask.
+-- Assumes nothing.
+use mathlib.Core.Path.{_≡_}
+use mathlib.Core.List.{List}
+use mathlib.Core.Bool.{true, false}
+use Prim.Native.Nat.{ℕ, _+_, _≤_, _<_}
+use borrow.Author.Tests.{eq-eqb, ne-eqb, le-leb, lt-leb}
+use lib.ListN.{length}
+use Rattle.sponge.specs.Transcript.{Call, Call.absorb, Call.finalize, Call.squeeze, Rules}
+use Rattle.sponge.specs.Runs.{Run, Machine, runStatus}
+
+module _ {S A : Type 0} (U : Rules A) (M : Machine S A) (r : Run S) where
+  pub status-5 : (c : Call A) → M .reachable r ≡ false → runStatus U M r c ≡ 5
+  status-5 c e = rw e
+
+  module _ (e : M .reachable r ≡ true) where
+    pub absorb-3 : (p : List ℕ) → (r .phase ≡ 0 → ⊥) → runStatus U M r (absorb p) ≡ 3
+    absorb-3 p f = rw (e, ne-eqb (r .phase) 0 f)
+
+    pub absorb-2 : (p : List ℕ) → r .phase ≡ 0 → U .inputLimit < r .absorbed + length p → runStatus U M r (absorb p) ≡ 2
+    absorb-2 p f g = rw (e, eq-eqb (r .phase) 0 f, lt-leb (r .absorbed + length p) (U .inputLimit) g)
+
+    pub absorb-0 : (p : List ℕ) → r .phase ≡ 0 → r .absorbed + length p ≤ U .inputLimit → runStatus U M r (absorb p) ≡ 0
+    absorb-0 p f g = rw (e, eq-eqb (r .phase) 0 f, le-leb (r .absorbed + length p) (U .inputLimit) g)
+
+    pub finalize-3 : (a : A) → (r .phase ≡ 0 → ⊥) → runStatus U M r (finalize a) ≡ 3
+    finalize-3 a f = rw (e, ne-eqb (r .phase) 0 f)
+
+    pub finalize-argument : (a : A) → r .phase ≡ 0 → runStatus U M r (finalize a) ≡ U .argument a
+    finalize-argument a f = rw (e, eq-eqb (r .phase) 0 f)
+
+    pub squeeze-3 : (k : ℕ) → (r .phase ≡ 1 → ⊥) → runStatus U M r (squeeze k) ≡ 3
+    squeeze-3 k f = rw (e, ne-eqb (r .phase) 1 f)
+
+    pub squeeze-6 : (k : ℕ) → r .phase ≡ 1 → U .outputLimit < r .squeezed + k → runStatus U M r (squeeze k) ≡ 6
+    squeeze-6 k f g = rw (e, eq-eqb (r .phase) 1 f, lt-leb (r .squeezed + k) (U .outputLimit) g)
+
+    pub squeeze-0 : (k : ℕ) → r .phase ≡ 1 → r .squeezed + k ≤ U .outputLimit → runStatus U M r (squeeze k) ≡ 0
+    squeeze-0 k f g = rw (e, eq-eqb (r .phase) 1 f, le-leb (r .squeezed + k) (U .outputLimit) g)
