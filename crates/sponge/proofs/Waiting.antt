@@ -47,7 +47,7 @@ module _ {X : Type 0} (full : X → X) (put : X → ℕ → ℕ → X) (r : ℕ)
   steps-full p x (b ∷ s) h = rw (eq-eqb r r refl, ne-eqb 0 r (omega arith))
 
   -- a whole piece, and then more
-  steps-over : 0 < r → (x : X) (s : List ℕ) → r < length s
+  pub steps-over : 0 < r → (x : X) (s : List ℕ) → r < length s
       → steps full put r (record { value = x; position = 0 }) s ≡ steps full put r (record { value = full (puts put x 0 (take r s)); position = 0 }) (drop r s)
   steps-over p x s h =
       let whole : 0 + length (take r s) ≡ r = zero-add _ ∙ length-take-le r s (omega arith) in

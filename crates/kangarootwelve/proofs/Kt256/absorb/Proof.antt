@@ -1,0 +1,35 @@
+use Rattle.sponge.specs.Transcript.{Call.absorb}
+use Rattle.kangarootwelve.specs.Inside.{runWith}
+use Rattle.kangarootwelve.specs.declared.Progress.{Progress}
+use mathlib.Core.Path.{ap, _∙_}
+use Rattle.kangarootwelve.specs.Model.{Answer, answerOf}
+use Rattle.kangarootwelve.specs.declared.Run.{Run}
+use borrow.Author.Needs.{needs}
+use Rattle.kangarootwelve.proofs.Kt256.absorb.Statement.{statement}
+use Rattle.kangarootwelve.proofs.Kt256.absorb.Tie as tie
+use Rattle.kangarootwelve.proofs.Kt256.absorb.Reads as reads
+use Rattle.kangarootwelve.proofs.Kt256.absorb.Lts as lts
+use Rattle.kangarootwelve.proofs.calls.absorb.Reads as absorb-reads
+use Rattle.kangarootwelve.proofs.calls.progress.Reads as progress-reads
+use Rattle.kangarootwelve.proofs.calls.run_with.Reads as run-with-reads
+
+progress-requires : tie.Need-progress-requires
+progress-requires c κs = search needs
+
+absorb-requires : tie.Need-absorb-requires
+absorb-requires c κs = search needs
+
+run-with-requires : tie.Need-run-with-requires
+run-with-requires c κs = search needs
+
+returns : tie.Need-returns
+returns c =
+    let a = c .before .before .before .before .before .before .before .before .before .args in
+    let m = c .before .absorb in
+    ap (λ (r : Run). record { hasher = record { run = r }; status = m .result .status }) (c .run-with .ensures)
+    ∙ ap (λ (x : Answer). record { hasher = record { run = x .run }; status = x .status }) (m .ensures)
+    ∙ ap (λ (p : Progress). let x = answerOf 136 64 (runWith (a .self .run .node .lanes) (a .self .run .leaf .lanes) p) (absorb (a .piece .now)) in record { hasher = record { run = x .run }; status = x .status })
+    (c .before .before .before .before .before .before .progress .ensures)
+
+pub absorb-spec : {M : Type 1} → statement M
+absorb-spec = tie.close (tie.spec progress-requires absorb-requires run-with-requires returns)

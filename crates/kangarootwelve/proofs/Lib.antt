@@ -1,0 +1,11 @@
+-- Laws of KT. Crates above use `Streaming` (the list theorem and what follows from it) and `Merged`; the rest serves the functions'
+-- own proofs.
+pub mod Published
+pub mod Laws
+pub mod Streaming
+pub mod Merged
+mod Nodes
+mod Encoding
+mod Cases
+mod OneGo
+mod Examples

@@ -1,0 +1,98 @@
+use Prim.Native.Nat.{_≤_}
+use native.Mathlib.Omega.{arith}
+use Rattle.kangarootwelve.specs.Tree.{finalizeTree}
+use Rattle.kangarootwelve.specs.declared.Place.{Place}
+use mathlib.Core.Path.{_≡_, ap, sym, _∙_, subst}
+use mathlib.Core.Bool.{true, false}
+use borrow.Author.Tests.{not-true, not-false}
+use Rattle.sponge.specs.Transcript.{Call.finalize}
+use Rattle.sponge.proofs.Answers.{status-5, finalize-3, finalize-argument}
+use Rattle.kangarootwelve.specs.Transcript.{rules}
+use Rattle.kangarootwelve.specs.Model.{reachable, machine, seen}
+use Rattle.kangarootwelve.specs.Inside.{Fits, treeOf, runWith, answered}
+use Rattle.kangarootwelve.specs.declared.Run.{Run}
+use Rattle.kangarootwelve.specs.declared.Moved.{Moved}
+use Rattle.kangarootwelve.proofs.Cases.{passes, fits, refused-is, customization-4, customization-0, place-fits, place-index, finalize-answer}
+use borrow.Author.Needs.{needs}
+use Rattle.kangarootwelve.proofs.calls.finalize.Statement.{statement}
+use Rattle.kangarootwelve.proofs.calls.finalize.Tie as tie
+use Rattle.kangarootwelve.proofs.calls.finalize.Reads as reads
+use Rattle.kangarootwelve.proofs.calls.finalize.Lts as lts
+use Rattle.kangarootwelve.proofs.calls.is_reachable.Reads as is-reachable-reads
+use Rattle.kangarootwelve.proofs.calls.place.Reads as place-reads
+use Rattle.kangarootwelve.proofs.calls.refused.Reads as refused-reads
+use Rattle.kangarootwelve.proofs.tree.finalize.Reads as finalize-reads
+
+-- past the first test the run is one that 5 does not refuse
+was : (c : tie.Else1) → let a = c .before .before .before .args in reachable (a .rate) (a .chaining) (a .at .node) (a .at .leaf) (a .at .phase) (a .at .absorbed) (a .at .squeezed) ≡ true
+was c = sym (c .before .is-reachable .ensures) ∙ not-false _ (c .if1 .left)
+
+is-reachable-requires : tie.Need-is-reachable-requires
+is-reachable-requires c κs = search needs
+
+refused-requires : tie.Need-refused-requires
+refused-requires c κs = search needs
+
+returns : tie.Need-returns
+returns c =
+    let a = c .before .before .before .before .args in
+    let r : Run = runWith (a .node .now) (a .leaf .now) (a .at) in
+    let e = status-5 (rules (a .rate) (a .chaining)) (machine (a .rate) (a .chaining)) (seen r) (finalize (a .customization .now)) (passes (a .rate) (a .chaining) r false (sym (c .before .before .is-reachable .ensures) ∙ not-true _ (c .before .if1 .taken))) in
+    ap (λ (m : Moved). answered m (a .node .now) (a .leaf .now)) (c .refused .ensures) ∙ refused-is (a .rate) (a .chaining) r (finalize (a .customization .now)) 4 e
+
+refused-requires-2 : tie.Need-refused-requires-2
+refused-requires-2 c κs = search needs
+
+returns-2 : tie.Need-returns-2
+returns-2 c =
+    let a = c .before .before .before .before .before .before .args in
+    let r : Run = runWith (a .node .now) (a .leaf .now) (a .at) in
+    let e = finalize-3 (rules (a .rate) (a .chaining)) (machine (a .rate) (a .chaining)) (seen r) (passes (a .rate) (a .chaining) r true (was (c .before .before .before))) (a .customization .now) (c .before .if2 .taken) in
+    ap (λ (m : Moved). answered m (a .node .now) (a .leaf .now)) (c .refused2 .ensures) ∙ refused-is (a .rate) (a .chaining) r (finalize (a .customization .now)) 2 e
+
+refused-requires-3 : tie.Need-refused-requires-3
+refused-requires-3 c κs = search needs
+
+returns-3 : tie.Need-returns-3
+returns-3 c =
+    let a = c .before .before .before .before .before .before .before .args in
+    let r : Run = runWith (a .node .now) (a .leaf .now) (a .at) in
+    let e = finalize-argument (rules (a .rate) (a .chaining)) (machine (a .rate) (a .chaining)) (seen r) (passes (a .rate) (a .chaining) r true (was (c .before .before .before .before))) (a .customization .now) (c .before .before .if2 .left) ∙ customization-4 (a .rate) (a .chaining) (a .customization .now) (c .before .if3 .taken) in
+    ap (λ (m : Moved). answered m (a .node .now) (a .leaf .now)) (c .refused3 .ensures) ∙ refused-is (a .rate) (a .chaining) r (finalize (a .customization .now)) 3 e
+
+place-requires : tie.Need-place-requires
+place-requires c κs = search needs
+
+finalize-requires : tie.Need-finalize-requires
+finalize-requires c κs =
+    let a = c .before .before .before .before .before .before .before .before .before in
+    let h = fits (a .args .rate) (a .args .chaining) (runWith (a .args .node .now) (a .args .leaf .now) (a .args .at)) (a .pre .0) (was (c .before .before .before .before .before .before)) in
+    let few : c .place .result .index ≤ a .args .at .absorbed = rw (c .place .ensures) (place-index (a .args .rate) (a .args .chaining) (a .args .node .now) (a .args .leaf .now) (a .args .at)) in (
+      a .pre .0,
+      a .pre .1,
+      a .pre .2,
+      subst (λ (p : Place). Fits (a .args .rate) (treeOf (a .args .node .now) (a .args .leaf .now) p)) (sym (c .place .ensures)) (place-fits (a .args .rate) (a .args .chaining) (a .args .node .now) (a .args .leaf .now) (a .args .at) (h .0) (h .1)),
+      omega arith,
+    )
+
+returns-4 : tie.Need-returns-4
+returns-4 c =
+    let a = c .before .before .before .before .before .before .before .before .before .before .args in
+    let r : Run = runWith (a .node .now) (a .leaf .now) (a .at) in
+    let e = finalize-argument (rules (a .rate) (a .chaining)) (machine (a .rate) (a .chaining)) (seen r) (passes (a .rate) (a .chaining) r true (was (c .before .before .before .before .before .before .before))) (a .customization .now) (c .before .before .before .before .before .if2 .left) ∙ customization-0 (a .rate) (a .chaining) (a .customization .now) (c .before .before .before .before .if3 .left) in
+    finalize-answer (a .rate) (a .chaining) (a .node .now) (a .leaf .now) (a .at) (a .customization .now) (c .finalize .last .1 .1 .0) (c .finalize .ensures ∙ ap (λ (p : Place). finalizeTree (a .rate) (a .chaining) (treeOf (a .node .now) (a .leaf .now) p) (a .customization .now)) (c .before .place .ensures)) e
+
+pub finalize-spec : {M : Type 1} → statement M
+finalize-spec =
+    tie.close
+    (tie.spec
+    is-reachable-requires
+    refused-requires
+    returns
+    refused-requires-2
+    returns-2
+    refused-requires-3
+    returns-3
+    place-requires
+    finalize-requires
+    returns-4)

@@ -1,0 +1,20 @@
+use Rattle.kangarootwelve.proofs.Published.{chunk-is}
+use borrow.Author.Needs.{needs}
+use Rattle.kangarootwelve.proofs.calls.place.Statement.{statement}
+use Rattle.kangarootwelve.proofs.calls.place.Tie as tie
+use Rattle.kangarootwelve.proofs.calls.place.Reads as reads
+use Rattle.kangarootwelve.proofs.calls.place.Lts as lts
+use Rattle.kangarootwelve.proofs.calls.index_after.Reads as index-after-reads
+use Rattle.kangarootwelve.proofs.calls.position_after.Reads as position-after-reads
+
+index-after-requires : tie.Need-index-after-requires
+index-after-requires c κs = search needs
+
+position-after-requires : tie.Need-position-after-requires
+position-after-requires c κs = search needs
+
+returns : tie.Need-returns
+returns c = rw (← c .before .index-after .ensures, c .position-after .ensures, chunk-is)
+
+pub place-spec : {M : Type 1} → statement M
+place-spec = tie.close (tie.spec index-after-requires position-after-requires returns)

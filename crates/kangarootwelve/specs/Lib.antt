@@ -1,0 +1,5 @@
+pub mod Published
+pub mod Transcript
+pub mod Tree
+pub mod Model
+pub mod Inside

@@ -1,0 +1,141 @@
+-- What each call on a run of KT, and each call in one go, does on every input, over the rate and the length of a chaining value.
+-- Assumes nothing.
+use mathlib.Core.List.{List}
+use mathlib.Core.Bool.{Bool, cond, _&&_}
+use Prim.Native.Nat.{ℕ, zero, suc, _+_, _*_}
+use lib.ListN.{length}
+use lib.Dec.{eqb, leb}
+use Rattle.keccak.specs.Permutation.{permuted}
+use Rattle.sponge.specs.Waiting.{At, positionAfter, indexAfter}
+use Rattle.sponge.specs.Model.{Sponge, fresh, squeezeBytes, afterBytes}
+use Rattle.sponge.specs.Status.{done, inputTooLong, outputTooLong, badLength, firstOf}
+use Rattle.sponge.specs.Transcript.{Call, Call.squeeze, Reply, lent}
+use Rattle.sponge.specs.Runs as runs
+use Rattle.sponge.specs.Runs.{Machine, freshRun, perform}
+use Rattle.turboshake.specs.Transcript.{limit}
+use Rattle.kangarootwelve.specs.Published.{chunk, kt}
+use Rattle.kangarootwelve.specs.Transcript.{customizationStatus, rules}
+use Rattle.kangarootwelve.specs.Tree.{Tree, absorbTree, finalizeTree}
+use Rattle.kangarootwelve.specs.declared.Run.{Run}
+use Rattle.kangarootwelve.specs.declared.Moved.{Moved}
+use Rattle.kangarootwelve.specs.declared.Kt128.{Kt128}
+use Rattle.kangarootwelve.specs.declared.Answer128.{Answer128}
+use Rattle.kangarootwelve.specs.declared.Kt256.{Kt256}
+use Rattle.kangarootwelve.specs.declared.Answer256.{Answer256}
+
+-- the two sponges of a run
+pub record Nodes : Type 0 where
+  pub final : Sponge
+  pub leaf : Sponge
+
+abbrev pub nodesOf : Tree → Nodes
+nodesOf t = record { final = t .final; leaf = t .leaf }
+
+-- the tree after n bytes of S: the chunk in hand and the position in it are told by n
+abbrev pub treeAt : ℕ → Nodes → At Tree
+treeAt n s = record { value = record { final = s .final; leaf = s .leaf; index = indexAfter chunk n }; position = positionAfter chunk n }
+
+-- ---- the test of status 5
+
+-- the bytes that the final node and the leaf have got, with o bytes of the chunk in hand absorbed
+abbrev pub finalCount : ℕ → ℕ → ℕ → ℕ
+finalCount chaining zero o = o
+finalCount chaining (suc k) o = chunk + 8 + k * chaining
+
+abbrev pub leafCount : ℕ → ℕ → ℕ
+leafCount zero o = 0
+leafCount (suc k) o = o
+
+-- the positions due after n bytes of M
+abbrev pub finalDue : ℕ → ℕ → ℕ → ℕ
+finalDue rate chaining n = positionAfter rate (finalCount chaining (indexAfter chunk n) (positionAfter chunk n))
+
+abbrev pub leafDue : ℕ → ℕ → ℕ
+leafDue rate n = positionAfter rate (leafCount (indexAfter chunk n) (positionAfter chunk n))
+
+-- what a run reached from a fresh one has: in phase 0 nothing is squeezed and the positions tell the bytes absorbed; in phase 1
+-- the final node's tells the bytes squeezed, and the leaf is fresh again; lanes are not looked at
+unfoldable pub reachable : ℕ → ℕ → ℕ → ℕ → ℕ → ℕ → ℕ → Bool
+reachable rate chaining final leaf phase absorbed squeezed =
+    leb absorbed limit
+    && cond (eqb phase 0) (eqb squeezed 0 && (eqb final (finalDue rate chaining absorbed) && eqb leaf (leafDue rate absorbed)))
+    (eqb phase 1 && (leb squeezed limit && (eqb final (positionAfter rate squeezed) && eqb leaf 0)))
+
+-- what becomes of the two sponges, and the test of status 5
+unfoldable pub machine : ℕ → ℕ → Machine Nodes (List ℕ)
+machine rate chaining = record {
+  fresh = record { final = fresh; leaf = fresh };
+  absorb = λ n s p. nodesOf (absorbTree rate chaining (treeAt n s) p .value);
+  finalize = λ n s c. record { final = finalizeTree rate chaining (treeAt n s) c; leaf = fresh };
+  squeeze = λ k s. squeezeBytes permuted rate k (s .final);
+  after = λ k s. record { final = afterBytes permuted rate k (s .final); leaf = s .leaf };
+  reachable = λ r. reachable rate chaining (r .state .final .position) (r .state .leaf .position) (r .phase) (r .absorbed) (r .squeezed);
+}
+
+-- ---- the code's structs
+
+-- a run as the theorem sees it, and back
+abbrev pub seen : Run → runs.Run Nodes
+seen r = record {
+  state = record { final = record { value = r .node .lanes; position = r .node .position }; leaf = record { value = r .leaf .lanes; position = r .leaf .position } };
+  phase = r .phase;
+  absorbed = r .absorbed;
+  squeezed = r .squeezed;
+}
+
+abbrev pub held : runs.Run Nodes → Run
+held r = record {
+  node = record { lanes = r .state .final .value; position = r .state .final .position };
+  leaf = record { lanes = r .state .leaf .value; position = r .state .leaf .position };
+  phase = r .phase;
+  absorbed = r .absorbed;
+  squeezed = r .squeezed;
+}
+
+unfoldable pub freshOf : ℕ → ℕ → Run
+freshOf rate chaining = held (freshRun (rules rate chaining) (machine rate chaining))
+
+-- a call's status, and the run that it hands back
+pub record Answer : Type 0 where
+  pub status : ℕ
+  pub run : Run
+
+unfoldable pub answerOf : ℕ → ℕ → Run → Call (List ℕ) → Answer
+answerOf rate chaining r c = record {
+  status = perform (rules rate chaining) (machine rate chaining) (seen r) c .status;
+  run = held (perform (rules rate chaining) (machine rate chaining) (seen r) c .left);
+}
+
+-- the answer with the bytes given: what a list of calls on the code's runs is made of
+unfoldable pub replyOf : ℕ → ℕ → Run → Call (List ℕ) → Reply Run
+replyOf rate chaining r c = record {
+  status = answerOf rate chaining r c .status;
+  bytes = perform (rules rate chaining) (machine rate chaining) (seen r) c .bytes;
+  left = answerOf rate chaining r c .run;
+}
+
+-- a call's answer in the types of each strength, which differ in their names and two numbers
+abbrev pub answer128 : Kt128 → Call (List ℕ) → Answer128
+answer128 h c = record { status = answerOf 168 32 (h .run) c .status; hasher = record { run = answerOf 168 32 (h .run) c .run } }
+
+abbrev pub answer256 : Kt256 → Call (List ℕ) → Answer256
+answer256 h c = record { status = answerOf 136 64 (h .run) c .status; hasher = record { run = answerOf 136 64 (h .run) c .run } }
+
+-- what the lent output holds after a squeeze, which held `out` before
+unfoldable pub outputOf : ℕ → ℕ → Run → List ℕ → List ℕ
+outputOf rate chaining r out =
+    lent (perform (rules rate chaining) (machine rate chaining) (seen r) (squeeze (length out)) .status)
+    (perform (rules rate chaining) (machine rate chaining) (seen r) (squeeze (length out)) .bytes) out
+
+-- ---- in one go
+
+-- the status of a message of m bytes, a customization string of c bytes, and n bytes asked
+unfoldable pub hashStatus : ℕ → ℕ → ℕ → ℕ
+hashStatus m c n =
+    firstOf (cond (leb m limit) done inputTooLong)
+    (firstOf (customizationStatus c)
+    (firstOf (cond (eqb n 0) badLength done) (cond (leb n limit) done outputTooLong)))
+
+-- what the lent output holds after the call
+unfoldable pub hashOutput : ℕ → ℕ → List ℕ → List ℕ → List ℕ → List ℕ
+hashOutput rate chaining m c out = lent (hashStatus (length m) (length c) (length out)) (kt rate chaining m c (length out)) out

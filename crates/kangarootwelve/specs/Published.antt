@@ -1,0 +1,73 @@
+-- KT128 and KT256: draft-irtf-cfrg-kangarootwelve-16, section 3, over the rate and the length of a chaining value.
+-- Assumes nothing.
+use mathlib.Core.List.{List, [], _∷_, _++_}
+use Prim.Native.Nat.{ℕ, zero, suc, _/_, _%_}
+use lib.ListN.{length, replicate}
+use Rattle.sponge.specs.Cut.{cut}
+use Rattle.turboshake.specs.Published.{turboshake}
+
+-- ---- 3.3: length_encode
+
+-- the bytes of x, most significant first, with no leading zero; as many steps as the first argument are enough
+abbrev pub digits : ℕ → ℕ → List ℕ
+digits zero x = []
+digits (suc f) zero = []
+digits (suc f) (suc x) = digits f (suc x / 256) ++ suc x % 256 ∷ []
+
+-- the bytes of x, then one byte with their number
+unfoldable pub lengthEncode : ℕ → List ℕ
+lengthEncode x = digits x x ++ length (digits x x) ∷ []
+
+-- ---- 3.2: the tree
+
+-- S = M || C || length_encode(|C|)
+unfoldable pub merged : List ℕ → List ℕ → List ℕ
+merged m c = m ++ c ++ lengthEncode (length c)
+
+-- the length of a chunk
+unfoldable pub chunk : ℕ
+chunk = 8192
+
+-- what follows S_0 in the final node, and what ends it
+unfoldable pub marker : List ℕ
+marker = 0x03 ∷ replicate 7 0
+
+unfoldable pub trailer : List ℕ
+trailer = 0xFF ∷ 0xFF ∷ []
+
+-- the domain separation bytes: SingleNode, IntermediateNode, FinalNode
+abbrev pub singleNode : ℕ
+singleNode = 0x07
+
+abbrev pub intermediateNode : ℕ
+intermediateNode = 0x0B
+
+abbrev pub finalNode : ℕ
+finalNode = 0x06
+
+module _ (rate chaining : ℕ) where
+  -- CV_i = TurboSHAKE(S_i, 0B, chaining), joined in order
+  abbrev pub chainingValues : List (List ℕ) → List ℕ
+  chainingValues [] = []
+  chainingValues (s ∷ ss) = turboshake rate s intermediateNode chaining ++ chainingValues ss
+
+  -- S_0, the marker, CV_1 .. CV_(n-1), length_encode(n - 1), FF FF; ss is S_1 .. S_(n-1)
+  abbrev pub finalNodeOf : List ℕ → List (List ℕ) → List ℕ
+  finalNodeOf s ss = s ++ marker ++ chainingValues ss ++ lengthEncode (length ss) ++ trailer
+
+  -- the output of n bytes for the chunks: one, or more
+  abbrev pub tree : List (List ℕ) → ℕ → List ℕ
+  tree [] n = []
+  tree (s ∷ []) n = turboshake rate s singleNode n
+  tree (s ∷ t ∷ ts) n = turboshake rate (finalNodeOf s (t ∷ ts)) finalNode n
+
+  -- KT(M, C, L): S has at least one byte, so at least one chunk
+  unfoldable pub kt : List ℕ → List ℕ → ℕ → List ℕ
+  kt m c n = tree (cut chunk (merged m c)) n
+
+-- 3.2 and 3.4: the two strengths differ in two numbers
+abbrev pub kt128 : List ℕ → List ℕ → ℕ → List ℕ
+kt128 = kt 168 32
+
+abbrev pub kt256 : List ℕ → List ℕ → ℕ → List ℕ
+kt256 = kt 136 64
