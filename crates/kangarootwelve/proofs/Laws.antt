@@ -121,14 +121,20 @@ module _ (rate chaining : ℕ) where
         position = i .position-is j;
       }
 
-  absorb-joins : (n : ℕ) (s : Nodes) (p q : List ℕ) → machine rate chaining .absorb n s (p ++ q) ≡ machine rate chaining .absorb (n + length p) (machine rate chaining .absorb n s p) q
-  unfolding machine
-  absorb-joins n s p q =
-      ap (λ (t : At Tree). nodesOf (t .value))
-      (steps-append (endChunk rate chaining) (putByte rate) chunk (treeAt n s) p q
-      ∙ ap (λ (t : At Tree). absorbTree rate chaining t q) (tree-told n s p))
-
   module _ (pos : 0 < rate) where
+    -- ---- what is squeezed is the published output
+
+    kt-output : (f c : List ℕ) (n : ℕ)
+        → squeezeBytes permuted rate n (finalizeTree rate chaining (treeAt (length f) (nodesOf (absorbTree rate chaining (treeAt 0 (record { final = fresh; leaf = fresh })) f .value))) c)
+        ≡ kt rate chaining f c n
+    unfolding merged
+    kt-output f c n =
+        let s : Nodes = record { final = fresh; leaf = fresh } in
+        let whole : absorbTree rate chaining (treeAt 0 s) (f ++ c ++ lengthEncode (length c))
+        ≡ absorbTree rate chaining (treeAt (length f) (nodesOf (absorbTree rate chaining (treeAt 0 s) f .value))) (c ++ lengthEncode (length c)) =
+        rw (append-assoc f c (lengthEncode (length c)), steps-append (endChunk rate chaining) (putByte rate) chunk (treeAt 0 s) f, tree-told 0 s f, zero-add) in
+        ap (λ (t : At Tree). squeezeBytes permuted rate n (closeTree rate chaining (t .value))) (sym whole) ∙ squeeze-kt rate chaining pos f c n
+
     -- ---- the two positions are told by the chunk in hand and the position in it
 
     record Places (q o : ℕ) (t : Tree) : Type 0 where
@@ -187,16 +193,12 @@ module _ (rate chaining : ℕ) where
           positions-due = pair _ _ _ _ (after-position permuted rate pos 0 (finalizeTree rate chaining u c) n (finalize-position u c) ∙ ap (positionAfter rate) (zero-add n)) refl;
         }
 
-    kt-output : (f c : List ℕ) (n : ℕ)
-        → squeezeBytes permuted rate n (finalizeTree rate chaining (treeAt (length f) (nodesOf (absorbTree rate chaining (treeAt 0 (record { final = fresh; leaf = fresh })) f .value))) c)
-        ≡ kt rate chaining f c n
-    unfolding merged
-    kt-output f c n =
-        let s : Nodes = record { final = fresh; leaf = fresh } in
-        let whole : absorbTree rate chaining (treeAt 0 s) (f ++ c ++ lengthEncode (length c))
-        ≡ absorbTree rate chaining (treeAt (length f) (nodesOf (absorbTree rate chaining (treeAt 0 s) f .value))) (c ++ lengthEncode (length c)) =
-        rw (append-assoc f c (lengthEncode (length c)), steps-append (endChunk rate chaining) (putByte rate) chunk (treeAt 0 s) f, tree-told 0 s f, zero-add) in
-        ap (λ (t : At Tree). squeezeBytes permuted rate n (closeTree rate chaining (t .value))) (sym whole) ∙ squeeze-kt rate chaining pos f c n
+    absorb-joins : (n : ℕ) (s : Nodes) (p q : List ℕ) → machine rate chaining .absorb n s (p ++ q) ≡ machine rate chaining .absorb (n + length p) (machine rate chaining .absorb n s p) q
+    unfolding machine
+    absorb-joins n s p q =
+        ap (λ (t : At Tree). nodesOf (t .value))
+        (steps-append (endChunk rate chaining) (putByte rate) chunk (treeAt n s) p q
+        ∙ ap (λ (t : At Tree). absorbTree rate chaining t q) (tree-told n s p))
 
     pub laws : Laws (rules rate chaining) (machine rate chaining)
     unfolding rules machine

@@ -87,16 +87,16 @@ fn is_reachable(rate: usize, chaining: usize, at: Progress) -> bool
         }
         return at.leaf == leaf_due(rate, at.absorbed);
     }
-    if at.phase != SQUEEZING {
-        return false;
+    if at.phase == SQUEEZING {
+        if LIMIT < at.squeezed {
+            return false;
+        }
+        if at.node != position_after(rate, at.squeezed) {
+            return false;
+        }
+        return at.leaf == 0;
     }
-    if LIMIT < at.squeezed {
-        return false;
-    }
-    if at.node != position_after(rate, at.squeezed) {
-        return false;
-    }
-    at.leaf == 0
+    false
 }
 
 pub(crate) fn fresh() -> Run
@@ -183,13 +183,10 @@ pub(crate) fn absorb(
         return refused(status::INPUT_TOO_LONG, at);
     }
     let after = tree::absorb(rate, chaining, node, leaf, place(at), piece);
-    let next = Progress {
-        node: after.node,
-        leaf: after.leaf,
-        phase: at.phase,
-        absorbed: total,
-        squeezed: at.squeezed,
-    };
+    let mut next = at;
+    next.node = after.node;
+    next.leaf = after.leaf;
+    next.absorbed = total;
     Moved {
         at: next,
         status: status::DONE,
@@ -219,13 +216,10 @@ pub(crate) fn finalize(
     tree::finalize(rate, chaining, node, leaf, place(at), customization);
     let fresh = [0u64; 25];
     *leaf = fresh;
-    let next = Progress {
-        node: 0,
-        leaf: 0,
-        phase: SQUEEZING,
-        absorbed: at.absorbed,
-        squeezed: at.squeezed,
-    };
+    let mut next = at;
+    next.node = 0;
+    next.leaf = 0;
+    next.phase = SQUEEZING;
     Moved {
         at: next,
         status: status::DONE,
@@ -255,13 +249,9 @@ pub(crate) fn squeeze(
         return refused(status::OUTPUT_TOO_LONG, at);
     }
     let given = sponge::squeeze(node, at.node, rate, out);
-    let next = Progress {
-        node: given.position,
-        leaf: at.leaf,
-        phase: at.phase,
-        absorbed: at.absorbed,
-        squeezed: total,
-    };
+    let mut next = at;
+    next.node = given.position;
+    next.squeezed = total;
     Moved {
         at: next,
         status: given.status,

@@ -30,19 +30,19 @@ returns-4 c =
     (c .before .leaf-due .result) (c .before .leaf-due .ensures) (c .before .before .if4 .left)
 
 returns-5 : tie.Need-returns-5
-returns-5 c = let a = c .before .before .before .before .before .before .args in no-phase (a .rate) (a .chaining) (a .at .node) (a .at .leaf) (a .at .phase) (a .at .absorbed) (a .at .squeezed) (c .before .before .before .before .if1 .left) (c .before .before .if2 .left) (c .if5 .taken)
-
-returns-6 : tie.Need-returns-6
-returns-6 c = let a = c .before .before .before .before .before .before .before .before .args in closed-long (a .rate) (a .chaining) (a .at .node) (a .at .leaf) (a .at .phase) (a .at .absorbed) (a .at .squeezed) (c .before .before .before .before .before .before .if1 .left) (c .before .before .before .before .if2 .left) (c .before .before .if5 .left) (c .if6 .taken)
+returns-5 c = let a = c .before .before .before .before .before .before .before .before .args in closed-long (a .rate) (a .chaining) (a .at .node) (a .at .leaf) (a .at .phase) (a .at .absorbed) (a .at .squeezed) (c .before .before .before .before .before .before .if1 .left) (c .before .before .before .before .if2 .left) (c .before .before .if5 .taken) (c .if6 .taken)
 
 position-after-requires : tie.Need-position-after-requires
 position-after-requires c κs = search needs
 
+returns-6 : tie.Need-returns-6
+returns-6 c = let a = c .before .before .before .before .before .before .before .before .before .before .before .args in closed-node (a .rate) (a .chaining) (a .at .node) (a .at .leaf) (a .at .phase) (a .at .absorbed) (a .at .squeezed) (c .before .before .before .before .before .before .before .before .before .if1 .left) (c .before .before .before .before .before .before .before .if2 .left) (c .before .before .before .before .before .if5 .taken) (c .before .before .before .if6 .left) (c .before .before .position-after .result) (c .before .before .position-after .ensures) (c .if7 .taken)
+
 returns-7 : tie.Need-returns-7
-returns-7 c = let a = c .before .before .before .before .before .before .before .before .before .before .before .args in closed-node (a .rate) (a .chaining) (a .at .node) (a .at .leaf) (a .at .phase) (a .at .absorbed) (a .at .squeezed) (c .before .before .before .before .before .before .before .before .before .if1 .left) (c .before .before .before .before .before .before .before .if2 .left) (c .before .before .before .before .before .if5 .left) (c .before .before .before .if6 .left) (c .before .before .position-after .result) (c .before .before .position-after .ensures) (c .if7 .taken)
+returns-7 c = let a = c .before .before .before .before .before .before .before .before .before .before .before .before .args in closed-leaf (a .rate) (a .chaining) (a .at .node) (a .at .leaf) (a .at .phase) (a .at .absorbed) (a .at .squeezed) (c .before .before .before .before .before .before .before .before .before .before .if1 .left) (c .before .before .before .before .before .before .before .before .if2 .left) (c .before .before .before .before .before .before .if5 .taken) (c .before .before .before .before .if6 .left) (c .before .before .before .position-after .result) (c .before .before .before .position-after .ensures) (c .before .if7 .left)
 
 returns-8 : tie.Need-returns-8
-returns-8 c = let a = c .before .before .before .before .before .before .before .before .before .before .before .before .args in closed-leaf (a .rate) (a .chaining) (a .at .node) (a .at .leaf) (a .at .phase) (a .at .absorbed) (a .at .squeezed) (c .before .before .before .before .before .before .before .before .before .before .if1 .left) (c .before .before .before .before .before .before .before .before .if2 .left) (c .before .before .before .before .before .before .if5 .left) (c .before .before .before .before .if6 .left) (c .before .before .before .position-after .result) (c .before .before .before .position-after .ensures) (c .before .if7 .left)
+returns-8 c = let a = c .before .before .before .before .before .before .args in no-phase (a .rate) (a .chaining) (a .at .node) (a .at .leaf) (a .at .phase) (a .at .absorbed) (a .at .squeezed) (c .before .before .before .before .if1 .left) (c .before .before .if2 .left) (c .if5 .left)
 
 pub is-reachable-spec : {M : Type 1} → statement M
 is-reachable-spec =
@@ -55,7 +55,7 @@ is-reachable-spec =
     leaf-due-requires
     returns-4
     returns-5
-    returns-6
     position-after-requires
+    returns-6
     returns-7
     returns-8)
