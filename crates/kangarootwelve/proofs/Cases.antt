@@ -11,7 +11,7 @@ use lib.Dec.{eqb}
 use lib.ListN.{length, replicate}
 use Rattle.keccak.specs.Permutation.{permuted}
 use Rattle.sponge.specs.Waiting.{At, positionAfter, indexAfter}
-use Rattle.sponge.specs.Model.{Sponge, fresh, Outcome, squeezeCall, squeezeOutput}
+use Rattle.sponge.specs.Model.{Sponge, Outcome, squeezeCall, squeezeOutput}
 use Rattle.sponge.specs.Transcript.{Call, Call.absorb, Call.finalize, Call.squeeze}
 use Rattle.sponge.specs.Runs.{worked, bytesOut, runStatus}
 use Rattle.sponge.proofs.Valid.{fits-valid, squeeze-done}
@@ -23,7 +23,7 @@ use Rattle.kangarootwelve.specs.Published.{chunk}
 use Rattle.kangarootwelve.specs.Transcript.{customizationLimit, customizationStatus, rules}
 use Rattle.kangarootwelve.specs.Tree.{Tree, absorbTree, finalizeTree}
 use Rattle.kangarootwelve.specs.Model.{Nodes, nodesOf, treeAt, finalCount, leafCount, finalDue, leafDue, reachable, machine, seen, held, answerOf, outputOf}
-use Rattle.kangarootwelve.specs.Inside.{Fits, treeOf, progressOf, placeOf, runWith}
+use Rattle.kangarootwelve.specs.Inside.{Fits, treeOf, placeOf, runWith}
 use Rattle.kangarootwelve.specs.declared.Run.{Run}
 use Rattle.kangarootwelve.specs.declared.Place.{Place}
 use Rattle.kangarootwelve.specs.declared.Progress.{Progress}

@@ -1,7 +1,7 @@
 -- The call in one go: its status by cases, the chunks that lie wholly in the message, and that what is squeezed is the published KT.
 -- Assumes nothing.
-use mathlib.Core.Path.{_≡_, refl, sym, ap, _∙_, subst}
-use mathlib.Core.List.{List, [], _∷_, _++_, append-assoc}
+use mathlib.Core.Path.{_≡_, refl, sym, ap, _∙_}
+use mathlib.Core.List.{List, _++_, append-assoc}
 use Prim.Native.Nat.{ℕ, zero, suc, _+_, _-_, _*_, _≤_, _<_, zero-le}
 use native.Mathlib.Nat.{zero-mul, suc-mul, add-comm, le-refl, min-le-left}
 use native.Mathlib.Decide.{decLe}
@@ -10,7 +10,6 @@ use borrow.Author.Tests.{eq-eqb, ne-eqb, le-leb, lt-leb}
 use lib.ListN.{length, take, drop, replicate, length-append, length-take, length-drop}
 use lib.Seq.{take-all, take-append-le, drop-append-le, drop-drop}
 use Rattle.keccak.specs.Permutation.{permuted}
-use Rattle.sponge.specs.Published.{xorByte}
 use Rattle.sponge.specs.Waiting.{At}
 use Rattle.sponge.specs.Transcript.{lent}
 use Rattle.sponge.specs.Model.{Sponge, fresh, absorbBytes, squeezeBytes, Outcome, absorbCall, squeezeCall, squeezeOutput}

@@ -2,7 +2,7 @@
 -- Assumes nothing.
 use mathlib.Core.Path.{_≡_, refl, sym, ap, _∙_}
 use mathlib.Core.List.{List, [], _∷_, _++_, append-nil, append-assoc}
-use Prim.Native.Nat.{ℕ, zero, suc, _+_, _*_, _≤_, _<_}
+use Prim.Native.Nat.{ℕ, zero, suc, _+_, _<_}
 use native.Mathlib.Nat.{suc-add, add-suc, add-zero}
 use native.Mathlib.Numerals.{one-add}
 use native.Mathlib.Omega.{arith}
@@ -17,7 +17,7 @@ use Rattle.sponge.proofs.Waiting.{Held, held, steps-append, walk, steps-pieces}
 use Rattle.sponge.proofs.Valid.{pad-position}
 use Rattle.turboshake.specs.Published.{turboshake}
 use Rattle.turboshake.proofs.Published.{squeeze-turboshake}
-use Rattle.kangarootwelve.specs.Published.{lengthEncode, merged, chunk, marker, trailer, singleNode, intermediateNode, finalNode, chainingValues, finalNodeOf, tree, kt}
+use Rattle.kangarootwelve.specs.Published.{lengthEncode, merged, chunk, marker, trailer, singleNode, intermediateNode, finalNode, chainingValues, tree, kt}
 use Rattle.kangarootwelve.specs.Tree.{Tree, freshTree, putTo, putByte, endChunk, absorbTree, closeTo, closeTree}
 
 pub chunk-is : chunk ≡ 8192

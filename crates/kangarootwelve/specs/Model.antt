@@ -17,7 +17,6 @@ use Rattle.kangarootwelve.specs.Published.{chunk, kt}
 use Rattle.kangarootwelve.specs.Transcript.{customizationStatus, rules}
 use Rattle.kangarootwelve.specs.Tree.{Tree, absorbTree, finalizeTree}
 use Rattle.kangarootwelve.specs.declared.Run.{Run}
-use Rattle.kangarootwelve.specs.declared.Moved.{Moved}
 use Rattle.kangarootwelve.specs.declared.Kt128.{Kt128}
 use Rattle.kangarootwelve.specs.declared.Answer128.{Answer128}
 use Rattle.kangarootwelve.specs.declared.Kt256.{Kt256}

@@ -130,13 +130,13 @@ pub(crate) fn progress(run: Run) -> Progress
 pub(crate) fn run_with(node: State, leaf: State, at: Progress) -> Run
     ensures { λ r. ⌜ r ≡ runWith (node .lanes) (leaf .lanes) at ⌝ }
 {
-    let mut left = node;
-    left.position = at.node;
-    let mut open = leaf;
-    open.position = at.leaf;
+    let mut moved_node = node;
+    moved_node.position = at.node;
+    let mut moved_leaf = leaf;
+    moved_leaf.position = at.leaf;
     Run {
-        node: left,
-        leaf: open,
+        node: moved_node,
+        leaf: moved_leaf,
         phase: at.phase,
         absorbed: at.absorbed,
         squeezed: at.squeezed,

@@ -6,7 +6,7 @@ ghost use lib.ListN.{length};
 ghost use Rattle.keccak.specs.Permutation.{permuted};
 ghost use Rattle.sponge.specs.Model.{fresh, absorbBytes};
 ghost use Rattle.turboshake.specs.Published.{turboshake};
-ghost use Rattle.kangarootwelve.specs.Published.{chunk, intermediateNode};
+ghost use Rattle.kangarootwelve.specs.Published.{intermediateNode};
 ghost use Rattle.kangarootwelve.specs.Model.{hashStatus, hashOutput};
 ghost use Rattle.kangarootwelve.specs.Inside.{endedChunk, endedChunks};
 use crate::CUSTOMIZATION_LIMIT;

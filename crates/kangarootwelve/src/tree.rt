@@ -1,6 +1,5 @@
 // The tree over lent lanes: S goes into the final node and the leaf in hand, a chunk at a time.
 ghost use mathlib.Core.Path.{_≡_};
-ghost use mathlib.Core.List.{[], _++_};
 ghost use Prim.Native.Nat.{_<_, _≤_, _+_, _^_, min};
 ghost use lib.ListN.{length};
 ghost use Rattle.keccak.specs.Permutation.{permuted};

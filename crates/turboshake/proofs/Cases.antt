@@ -13,7 +13,6 @@ use Rattle.keccak.specs.Permutation.{permuted}
 use Rattle.sponge.specs.Model.{Sponge, valid, Outcome, absorbCall, padCall, squeezeCall, squeezeOutput}
 use Rattle.sponge.specs.Transcript.{Call, Call.absorb, Call.finalize, Call.squeeze}
 use Rattle.sponge.specs.Runs.{worked, bytesOut, runStatus}
-use Rattle.sponge.specs.Runs as runs
 use Rattle.sponge.proofs.Valid.{absorb-done, pad-done, squeeze-done}
 use Rattle.sponge.proofs.Valid.{output-done as valid-output}
 use Rattle.sponge.proofs.Joining.{perform-done, perform-refused}
