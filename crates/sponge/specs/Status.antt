@@ -21,7 +21,7 @@ wrongPhase = 3
 abbrev pub customizationTooLong : ℕ
 customizationTooLong = 4
 
--- no run reached from a fresh one has this phase, these totals and this position
+-- no run reached from a fresh one has this phase, these totals and these positions
 abbrev pub unreachable : ℕ
 unreachable = 5
 
