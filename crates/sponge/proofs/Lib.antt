@@ -1,5 +1,5 @@
 -- Laws of the sponge. Crates above use `Published` (the fold computes the published sponge), `Position`, `Valid` (the calls' two cases),
--- `Streaming`, `Joining` and `Reachable`; the rest serves the functions' own proofs.
+-- `Streaming`, `Joining`, `Reachable` and `Pieces`; the rest serves the functions' own proofs.
 pub mod Xor
 pub mod XorByte
 pub mod Waiting
@@ -12,6 +12,7 @@ pub mod Joining
 pub mod Reachable
 pub mod Corollaries
 pub mod Answers
+pub mod Pieces
 mod Words
 mod Output
 mod Blocks
