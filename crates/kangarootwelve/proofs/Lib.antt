@@ -1,9 +1,10 @@
--- Laws of KT. Crates above use `Streaming` (the list theorem and what follows from it) and `Merged`; the rest serves the functions'
--- own proofs.
+-- Laws of KT. Crates above use `Streaming` (the list theorem and what follows from it), `Pieces` (calls in a row) and `Merged`; the
+-- rest serves the functions' own proofs.
 pub mod Published
 pub mod Laws
 pub mod Streaming
 pub mod Merged
+pub mod Pieces
 mod Nodes
 mod Encoding
 mod Cases

@@ -1,0 +1,69 @@
+-- What a caller knows of calls in a row on the code's own structs: a message absorbed in whatever pieces, finalized and squeezed.
+-- Assumes nothing.
+use mathlib.Core.Path.{_≡_, refl, ap}
+use mathlib.Core.List.{List, [], _++_}
+use Prim.Native.Nat.{ℕ, _≤_, _<_}
+use borrow.Author.Tests.{le-leb, lt-leb}
+use lib.ListN.{length}
+use Rattle.sponge.specs.Transcript.{Call.absorb, Call.finalize, Call.squeeze, Reply, lent}
+use Rattle.sponge.specs.Runs as runs
+use Rattle.sponge.proofs.Pieces as pieces
+use Rattle.turboshake.specs.Transcript.{limit}
+use Rattle.kangarootwelve.specs.Published.{kt}
+use Rattle.kangarootwelve.specs.Transcript.{customizationLimit, customizationStatus, rules}
+use Rattle.kangarootwelve.specs.Model.{Nodes, machine, held, freshOf, Answer, answerOf, outputOf}
+use Rattle.kangarootwelve.specs.declared.Run.{Run}
+use Rattle.kangarootwelve.proofs.Laws.{laws}
+
+-- C is taken up to 65,535 bytes, and no longer one is
+pub customization-taken : (n : ℕ) → n ≤ customizationLimit → customizationStatus n ≡ 0
+unfolding customizationStatus
+customization-taken n h = rw (le-leb n customizationLimit h)
+
+pub customization-long : (n : ℕ) → customizationLimit < n → customizationStatus n ≡ 4
+unfolding customizationStatus
+customization-long n h = rw (lt-leb n customizationLimit h)
+
+-- a reply on the code's structs
+answered : Reply (runs.Run Nodes) → Answer
+answered y = record { status = y .status; run = held (y .left) }
+
+module _ (rate chaining : ℕ) (pos : 0 < rate) where
+  -- the run after the message m, and after its finalize with c
+  pub absorbedRun : List ℕ → Run
+  absorbedRun m = held (pieces.absorbedRun (rules rate chaining) (machine rate chaining) m)
+
+  pub finalizedRun : List ℕ → List ℕ → Run
+  finalizedRun m c = held (pieces.finalizedRun (rules rate chaining) (machine rate chaining) m c)
+
+  pub fresh-absorbed : freshOf rate chaining ≡ absorbedRun []
+  unfolding freshOf absorbedRun machine
+  fresh-absorbed = refl
+
+  pub absorb-piece : (m p : List ℕ) → length (m ++ p) ≤ limit → answerOf rate chaining (absorbedRun m) (absorb p) ≡ record { status = 0; run = absorbedRun (m ++ p) }
+  unfolding absorbedRun answerOf answered rules
+  absorb-piece m p l = ap answered (pieces.absorb-piece (rules rate chaining) (machine rate chaining) (laws rate chaining pos) m p l)
+
+  pub absorb-long : (m p : List ℕ) → length m ≤ limit → limit < length (m ++ p) → answerOf rate chaining (absorbedRun m) (absorb p) ≡ record { status = 2; run = absorbedRun m }
+  unfolding absorbedRun answerOf answered rules
+  absorb-long m p h l = ap answered (pieces.absorb-long (rules rate chaining) (machine rate chaining) (laws rate chaining pos) m p h l)
+
+  pub finalize-run : (m c : List ℕ) → length m ≤ limit → customizationStatus (length c) ≡ 0
+      → answerOf rate chaining (absorbedRun m) (finalize c) ≡ record { status = 0; run = finalizedRun m c }
+  unfolding absorbedRun finalizedRun answerOf answered rules
+  finalize-run m c h e = ap answered (pieces.finalize-run (rules rate chaining) (machine rate chaining) (laws rate chaining pos) m c h e)
+
+  -- the published output, or a refusal that leaves the output as it was
+  pub squeeze-run : (m c out : List ℕ) → length m ≤ limit → length out ≤ limit
+      → (answerOf rate chaining (finalizedRun m c) (squeeze (length out)) .status ≡ 0) × (outputOf rate chaining (finalizedRun m c) out ≡ kt rate chaining m c (length out))
+  unfolding finalizedRun answerOf outputOf rules
+  squeeze-run m c out h l =
+      let e = pieces.squeeze-run (rules rate chaining) (machine rate chaining) (laws rate chaining pos) m c (length out) h l in
+      (ap (λ (y : Reply (runs.Run Nodes)). y .status) e, ap (λ (y : Reply (runs.Run Nodes)). lent (y .status) (y .bytes) out) e)
+
+  pub squeeze-long : (m c out : List ℕ) → length m ≤ limit → limit < length out
+      → (answerOf rate chaining (finalizedRun m c) (squeeze (length out)) .status ≡ 6) × (outputOf rate chaining (finalizedRun m c) out ≡ out)
+  unfolding finalizedRun answerOf outputOf rules
+  squeeze-long m c out h l =
+      let e = pieces.squeeze-long (rules rate chaining) (machine rate chaining) (laws rate chaining pos) m c (length out) h l in
+      (ap (λ (y : Reply (runs.Run Nodes)). y .status) e, ap (λ (y : Reply (runs.Run Nodes)). lent (y .status) (y .bytes) out) e)
