@@ -1,4 +1,4 @@
--- TurboSHAKE128's calls in a row, for the loop over pieces: from the contracts and the exported laws of the crate turboshake.
+-- The loop over pieces, once for every hasher: what each of its needs asks, from the laws of calls in a row.
 -- Assumes nothing.
 use mathlib.Core.Path.{_≡_, ap, sym, _∙_}
 use mathlib.Core.List.{List, _++_}
@@ -8,126 +8,130 @@ use native.Mathlib.Omega.{arith}
 use borrow.Author.Tests.{eq-eqb, ne-eqb, le-leb, lt-leb}
 use lib.ListN.{length, take, drop}
 use lib.Seq.{length-take-le, take-add, take-all}
-use Rattle.sponge.specs.Transcript.{Call.absorb, Call.finalize, Call.squeeze}
-use Rattle.turboshake.specs.Published.{turboshake128}
+use Rattle.sponge.specs.Transcript.{Call, Call.absorb, Call.finalize, Call.squeeze}
 use Rattle.turboshake.specs.Transcript.{limit}
-use Rattle.turboshake.specs.Model.{freshOf, Answer, answerOf, answer128, outputOf}
-use Rattle.turboshake.specs.declared.Run.{Run}
-use Rattle.turboshake.specs.declared.TurboShake128.{TurboShake128}
-use Rattle.turboshake.specs.declared.Answer128.{Answer128}
-use Rattle.turboshake.proofs.Pieces.{domain-taken, absorbedRun, finalizedRun, fresh-absorbed, absorb-piece, absorb-long, finalize-run, squeeze-run, squeeze-long}
 use Rattle.bench.specs.Pieces.{piecesStatus, piecesOutput}
 
-pub positive : 0 < 168
-positive = omega arith
+-- a hasher H whose calls answer an X
+pub record Hasher (A H X : Type 0) : Type 0 where
+  pub answer : H → Call A → X
+  pub status : X → ℕ
+  pub left : X → H
+  -- what a lent output holds after a squeeze
+  pub output : H → List ℕ → List ℕ
+  -- the finalize's argument, and the published function with it
+  pub argument : A
+  pub published : List ℕ → ℕ → List ℕ
+  -- the hasher after a message, and after its finalize
+  pub after : List ℕ → H
+  pub closed : List ℕ → H
+  pub absorb-piece : (m p : List ℕ) → length (m ++ p) ≤ limit → (status (answer (after m) (absorb p)) ≡ 0) × (left (answer (after m) (absorb p)) ≡ after (m ++ p))
+  pub absorb-long : (m p : List ℕ) → length m ≤ limit → limit < length (m ++ p) → status (answer (after m) (absorb p)) ≡ 2
+  pub finalize-run : (m : List ℕ) → length m ≤ limit → left (answer (after m) (finalize argument)) ≡ closed m
+  pub squeeze-run : (m out : List ℕ) → length m ≤ limit → length out ≤ limit
+      → (status (answer (closed m) (squeeze (length out))) ≡ 0) × (output (closed m) out ≡ published m (length out))
+  pub squeeze-long : (m out : List ℕ) → length m ≤ limit → limit < length out
+      → (status (answer (closed m) (squeeze (length out))) ≡ 6) × (output (closed m) out ≡ out)
 
 -- ---- the status and the output by cases
 
-module _ (step : ℕ) (m out : List ℕ) where
-  pub pieces-9 : step ≡ 0 → (9 ≡ piecesStatus step (length m) (length out)) × (out ≡ piecesOutput step m out)
+-- the status s, and an output that holds o, are those of the contract
+abbrev pub Right : (List ℕ → ℕ → List ℕ) → ℕ → List ℕ → List ℕ → ℕ → List ℕ → Type 0
+Right published step m out s o = (s ≡ piecesStatus step (length m) (length out)) × (o ≡ piecesOutput published step m out)
+
+module _ (published : List ℕ → ℕ → List ℕ) (step : ℕ) (m out : List ℕ) where
+  pub pieces-9 : step ≡ 0 → Right published step m out 9 out
   unfolding piecesStatus piecesOutput
   pieces-9 e = (rw (eq-eqb step 0 e), rw (eq-eqb step 0 e))
 
   module _ (s : step ≡ 0 → ⊥) where
-    pub pieces-2 : limit < length m → (2 ≡ piecesStatus step (length m) (length out)) × (out ≡ piecesOutput step m out)
+    pieces-2 : limit < length m → Right published step m out 2 out
     unfolding piecesStatus piecesOutput
     pieces-2 h = (rw (ne-eqb step 0 s, lt-leb (length m) limit h), rw (ne-eqb step 0 s, lt-leb (length m) limit h))
 
-    pub pieces-6 : length m ≤ limit → limit < length out → (6 ≡ piecesStatus step (length m) (length out)) × (out ≡ piecesOutput step m out)
+    pieces-6 : length m ≤ limit → limit < length out → Right published step m out 6 out
     unfolding piecesStatus piecesOutput
     pieces-6 h g = (rw (ne-eqb step 0 s, le-leb (length m) limit h, lt-leb (length out) limit g), rw (ne-eqb step 0 s, le-leb (length m) limit h, lt-leb (length out) limit g))
 
-    pub pieces-0 : length m ≤ limit → length out ≤ limit → (0 ≡ piecesStatus step (length m) (length out)) × (turboshake128 m 0x1F (length out) ≡ piecesOutput step m out)
+    pieces-0 : length m ≤ limit → length out ≤ limit → Right published step m out 0 (published m (length out))
     unfolding piecesStatus piecesOutput
     pieces-0 h g = (rw (ne-eqb step 0 s, le-leb (length m) limit h, le-leb (length out) limit g), rw (ne-eqb step 0 s, le-leb (length m) limit h, le-leb (length out) limit g))
 
--- ---- the calls
+-- ---- the loop
 
--- the hasher's run is the one that the message m leaves
-pub Holds : TurboShake128 → List ℕ → Type 0
-Holds h m = h .run ≡ absorbedRun 168 positive m
+module _ {A H X : Type 0} (R : Hasher A H X) (m : List ℕ) where
+  -- the loop's invariant: h has absorbed the first i bytes of m
+  abbrev pub Absorbed : H → ℕ → Type 0
+  Absorbed h i = (i ≤ length m) × (i ≤ limit) × (h ≡ R .after (take i m))
 
-pub holds-fresh : (h : TurboShake128) (m : List ℕ) → h ≡ record { run = freshOf 168 } → Holds h (take 0 m)
-unfolding Holds
-holds-fresh h m e = ap (λ (x : TurboShake128). x .run) e ∙ fresh-absorbed 168 positive
+  -- h absorbs the k bytes from i on, and a is what it answers
+  module _ (h : H) (i k : ℕ) (inv : Absorbed h i) (l : i + k ≤ length m) (a : X) (w : a ≡ R .answer h (absorb (take (i + k - i) (drop i m)))) where
+    joined : take i m ++ take k (drop i m) ≡ take (i + k) m
+    joined = sym (take-add i k m)
 
-module _ (h : TurboShake128) (m : List ℕ) (i k : ℕ) (e : Holds h (take i m)) (l : i + k ≤ length m) (a : Answer128) (w : a ≡ answer128 h (absorb (take k (drop i m)))) where
-  joined : take i m ++ take k (drop i m) ≡ take (i + k) m
-  joined = sym (take-add i k m)
+    length-joined : length (take i m ++ take k (drop i m)) ≡ i + k
+    length-joined = ap length joined ∙ length-take-le (i + k) m l
 
-  length-joined : length (take i m ++ take k (drop i m)) ≡ i + k
-  length-joined = ap length joined ∙ length-take-le (i + k) m l
+    answer-is : a ≡ R .answer (R .after (take i m)) (absorb (take k (drop i m)))
+    answer-is =
+        let e : i + k - i ≡ k = omega arith in
+        w ∙ ap (λ (n : ℕ). R .answer h (absorb (take n (drop i m)))) e ∙ ap (λ (x : H). R .answer x (absorb (take k (drop i m)))) (inv .2)
 
-  answer-is : answerOf 168 (h .run) (absorb (take k (drop i m))) ≡ answerOf 168 (absorbedRun 168 positive (take i m)) (absorb (take k (drop i m)))
-  unfolding Holds
-  answer-is = ap (λ (r : Run). answerOf 168 r (absorb (take k (drop i m)))) e
+    piece-done : i + k ≤ limit → (R .status a ≡ 0) × (R .left a ≡ R .after (take (i + k) m))
+    piece-done g =
+        let d = R .absorb-piece (take i m) (take k (drop i m)) (rw length-joined g) in
+        (ap (R .status) answer-is ∙ d .0, ap (R .left) answer-is ∙ d .1 ∙ ap (R .after) joined)
 
-  -- the next piece fits
-  pub piece-done : i + k ≤ limit → (a .status ≡ 0) × Holds (a .hasher) (take (i + k) m)
-  unfolding Holds
-  piece-done g =
-      let d = answer-is ∙ absorb-piece 168 positive (take i m) (take k (drop i m)) (rw length-joined g) in (
-        ap (λ (x : Answer128). x .status) w ∙ ap (λ (x : Answer). x .status) d,
-        ap (λ (x : Answer128). x .hasher .run) w ∙ ap (λ (x : Answer). x .run) d ∙ ap (absorbedRun 168 positive) joined,
-      )
+    piece-long : limit < i + k → R .status a ≡ 2
+    piece-long g =
+        let n : length (take i m) ≤ limit = rw (length-take-le i m (inv .0)) (inv .1) in
+        ap (R .status) answer-is ∙ R .absorb-long (take i m) (take k (drop i m)) n (rw length-joined g)
 
-  -- or passes the limit
-  pub piece-long : i ≤ limit → limit < i + k → a .status ≡ 2
-  piece-long n g =
-      let n' : length (take i m) ≤ limit = rw (length-take-le i m (omega arith)) n in
-      ap (λ (x : Answer128). x .status) w
-      ∙ ap (λ (x : Answer). x .status) (answer-is ∙ absorb-long 168 positive (take i m) (take k (drop i m)) n' (rw length-joined g))
+    -- a piece with status 0 fitted
+    pub again : R .status a ≡ 0 → Absorbed (R .left a) (i + k)
+    again z = by (decLe (i + k) limit)
+      where
+        by : Dec (i + k ≤ limit) → Absorbed (R .left a) (i + k)
+        by (yes g) = (l, g, piece-done g .1)
+        by (no g) = absurd (let t = piece-long (omega arith) in omega arith)
 
-  -- which of the two it is, its status tells
-  pub fits-limit : i ≤ limit → a .status ≡ 0 → i + k ≤ limit
-  fits-limit n z = by (decLe (i + k) limit)
-    where
-      by : Dec (i + k ≤ limit) → i + k ≤ limit
-      by (yes g) = g
-      by (no g) = absurd (let t = piece-long n (omega arith) in omega arith)
+    -- and a refused one passes the limit, and so does the message
+    pub refused : (step : ℕ) → (step ≡ 0 → ⊥) → (out : List ℕ) → (R .status a ≡ 0 → ⊥) → Right (R .published) step m out (R .status a) out
+    refused step s out z = by (decLe (i + k) limit)
+      where
+        by : Dec (i + k ≤ limit) → Right (R .published) step m out (R .status a) out
+        by (yes g) = absurd (z (piece-done g .0))
+        by (no g) =
+            let p = pieces-2 (R .published) step m out s (omega arith) in
+            (piece-long (omega arith) ∙ p .0, p .1)
 
-  pub passes-limit : (a .status ≡ 0 → ⊥) → limit < i + k
-  passes-limit z = by (decLe (i + k) limit)
-    where
-      by : Dec (i + k ≤ limit) → limit < i + k
-      by (yes g) = absurd (z (piece-done g .0))
-      by (no g) = omega arith
+  -- all of m was absorbed; a is what its finalize answers, b what the squeeze then answers, and o what the output then holds
+  module _ (h : H) (i : ℕ) (inv : Absorbed h i) (l : length m ≤ i) (a : X) (w : a ≡ R .answer h (finalize (R .argument)))
+      (out : List ℕ) (b : X) (v : b ≡ R .answer (R .left a) (squeeze (length out))) (o : List ℕ) (u : o ≡ R .output (R .left a) out) where
+    short : length m ≤ limit
+    short = let n = inv .1 in omega arith
 
--- a part of the message from i to i + k has k bytes
-pub same-part : (h : TurboShake128) (m : List ℕ) (i k : ℕ) → answer128 h (absorb (take (i + k - i) (drop i m))) ≡ answer128 h (absorb (take k (drop i m)))
-same-part h m i k =
-    let e : i + k - i ≡ k = omega arith in
-    ap (λ (n : ℕ). answer128 h (absorb (take n (drop i m)))) e
+    closes : R .left a ≡ R .closed m
+    closes =
+        ap (R .left) (w ∙ ap (λ (x : H). R .answer x (finalize (R .argument))) (inv .2 ∙ ap (R .after) (take-all i m l)))
+        ∙ R .finalize-run m short
 
--- all of it was absorbed
-pub whole : (h : TurboShake128) (m : List ℕ) (i : ℕ) → length m ≤ i → Holds h (take i m) → Holds h m
-unfolding Holds
-whole h m i l e = e ∙ ap (absorbedRun 168 positive) (take-all i m l)
+    status-is : R .status b ≡ R .status (R .answer (R .closed m) (squeeze (length out)))
+    status-is = ap (R .status) v ∙ ap (λ (x : H). R .status (R .answer x (squeeze (length out)))) closes
 
-module _ (h : TurboShake128) (m : List ℕ) (e : Holds h m) (l : length m ≤ limit) (a : Answer128) (w : a ≡ answer128 h (finalize 0x1F)) where
-  finalized : a .hasher .run ≡ finalizedRun 168 positive m 0x1F
-  unfolding Holds
-  finalized =
-      ap (λ (x : Answer128). x .hasher .run) w
-      ∙ ap (λ (x : Answer). x .run) (ap (λ (r : Run). answerOf 168 r (finalize 0x1F)) e ∙ finalize-run 168 positive m 0x1F l (domain-taken 0x1F (omega arith) (omega arith)))
+    output-is : o ≡ R .output (R .closed m) out
+    output-is = u ∙ ap (λ (x : H). R .output x out) closes
 
-  module _ (out : List ℕ) (b : Answer128) (v : b ≡ answer128 (a .hasher) (squeeze (length out))) (o : List ℕ) (u : o ≡ outputOf 168 (a .hasher .run) out) where
-    status-is : b .status ≡ answerOf 168 (finalizedRun 168 positive m 0x1F) (squeeze (length out)) .status
-    status-is = ap (λ (x : Answer128). x .status) v ∙ ap (λ (r : Run). answerOf 168 r (squeeze (length out)) .status) finalized
-
-    output-is : o ≡ outputOf 168 (finalizedRun 168 positive m 0x1F) out
-    output-is = u ∙ ap (λ (r : Run). outputOf 168 r out) finalized
-
-    pub row : (step : ℕ) → (step ≡ 0 → ⊥) → (b .status ≡ piecesStatus step (length m) (length out)) × (o ≡ piecesOutput step m out)
+    pub row : (step : ℕ) → (step ≡ 0 → ⊥) → Right (R .published) step m out (R .status b) o
     row step s = by (decLe (length out) limit)
       where
-        by : Dec (length out ≤ limit) → (b .status ≡ piecesStatus step (length m) (length out)) × (o ≡ piecesOutput step m out)
+        by : Dec (length out ≤ limit) → Right (R .published) step m out (R .status b) o
         by (yes g) =
-            let q = squeeze-run 168 positive m 0x1F out l g in
-            let p = pieces-0 step m out s l g in
+            let q = R .squeeze-run m out short g in
+            let p = pieces-0 (R .published) step m out s short g in
             (status-is ∙ q .0 ∙ p .0, output-is ∙ q .1 ∙ p .1)
         by (no g) =
             let f : limit < length out = omega arith in
-            let q = squeeze-long 168 positive m 0x1F out l f in
-            let p = pieces-6 step m out s l f in
+            let q = R .squeeze-long m out short f in
+            let p = pieces-6 (R .published) step m out s short f in
             (status-is ∙ q .0 ∙ p .0, output-is ∙ q .1 ∙ p .1)

@@ -3,7 +3,7 @@ ghost use mathlib.Core.Path.{_≡_};
 ghost use Prim.Native.Nat.{min};
 ghost use lib.ListN.{length};
 ghost use Rattle.turboshake.specs.Model.{hashStatus, hashOutput};
-ghost use Rattle.bench.specs.Pieces.{piecesStatus, piecesOutput};
+ghost use Rattle.bench.specs.Pieces.{turboshakeWith1F, piecesStatus, piecesOutput};
 ghost use Rattle.bench.specs.Repeat.{repeated};
 use turboshake::TurboShake128;
 
@@ -34,7 +34,7 @@ fn least(x: usize, y: usize) -> usize
 #[no_mangle]
 pub extern "C" fn bench_pieces(message: &[u8], step: usize, out: &mut [u8]) -> u8
     ensures { λ r. ⌜ r ≡ piecesStatus step (length (now (message .entry))) (length (now (out .entry))) ⌝ }
-    ensures { λ r. ⌜ now (out .exit) ≡ piecesOutput step (now (message .entry)) (now (out .entry)) ⌝ }
+    ensures { λ r. ⌜ now (out .exit) ≡ piecesOutput turboshakeWith1F step (now (message .entry)) (now (out .entry)) ⌝ }
 {
     if step == 0 {
         return BAD_STEP;

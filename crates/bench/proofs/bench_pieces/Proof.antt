@@ -1,10 +1,10 @@
-use mathlib.Core.Path.{_∙_}
-use Prim.Native.Nat.{_+_, _-_, _≤_, _<_}
+use Prim.Native.Nat.{_-_}
 use native.Mathlib.Omega.{arith}
 use borrow.Author.Needs.{needs}
-use lib.ListN.{length, take}
-use Rattle.turboshake.specs.Transcript.{limit}
-use Rattle.bench.proofs.Pieces.{pieces-9, pieces-2, Holds, holds-fresh, piece-done, piece-long, same-part, fits-limit, passes-limit, whole, row}
+use lib.ListN.{length}
+use Rattle.bench.specs.Pieces.{turboshakeWith1F}
+use Rattle.bench.proofs.Pieces.{pieces-9, Absorbed, again, refused, row}
+use Rattle.bench.proofs.Hashers.{turboHasher, turbo-fresh}
 use Rattle.bench.proofs.bench_pieces.Statement.{statement}
 use Rattle.bench.proofs.bench_pieces.Tie as tie
 use Rattle.bench.proofs.bench_pieces.Reads as reads
@@ -16,19 +16,19 @@ use Rattle.turboshake.proofs.TurboShake128.fresh.Reads as fresh-reads
 use Rattle.turboshake.proofs.TurboShake128.squeeze.Reads as squeeze-reads
 
 abbrev Inv-loop : tie.InvT-loop
-Inv-loop message step out hasher₀ i₀ hasher i = (i ≤ length message) × (i ≤ limit) × Holds hasher (take i message)
+Inv-loop message step out hasher₀ i₀ hasher i = Absorbed turboHasher message hasher i
 
 abbrev μ-loop : tie.MeasureT-loop
 μ-loop message step out hasher₀ i₀ hasher i = length message - i
 
 returns : tie.Need-returns Inv-loop μ-loop
-returns c = let a = c .before .before .before .args in pieces-9 (a .step) (a .message .now) (a .out .now) (c .if1 .taken)
+returns c = let a = c .before .before .before .args in pieces-9 turboshakeWith1F (a .step) (a .message .now) (a .out .now) (c .if1 .taken)
 
 fresh-requires : tie.Need-fresh-requires Inv-loop μ-loop
 fresh-requires c κs = search needs
 
 loop-holds : tie.Need-loop-holds Inv-loop μ-loop
-loop-holds c = (omega arith, omega arith, holds-fresh (c .fresh .result) (c .before .before .before .before .args .message .now) (c .fresh .ensures))
+loop-holds c = (omega arith, omega arith, turbo-fresh (c .fresh .result) (c .before .before .before .before .args .message .now) (c .fresh .ensures))
 
 sub-least : tie.Need-sub-least Inv-loop μ-loop
 sub-least c = search needs
@@ -55,13 +55,9 @@ returns-2 : tie.Need-returns-2 Inv-loop μ-loop
 returns-2 c =
     let l = c .before .before .before .before .before .before .before in
     let a = l .before .before .before .before .before .args in
-    let i = l .loop .i in
     let k = c .before .before .before .before .before .least .result in
     let r = c .before .before .before .absorb in
-    let w = r .ensures ∙ same-part (l .loop .hasher) (a .message .now) i k in
-    let g : limit < i + k = passes-limit (l .loop .hasher) (a .message .now) i k (l .loop .inv .2) (omega arith) (r .result) w (c .if2 .taken) in
-    let p = pieces-2 (a .step) (a .message .now) (a .out .now) (l .before .before .if1 .left) (omega arith) in
-    (piece-long (l .loop .hasher) (a .message .now) i k (l .loop .inv .2) (omega arith) (r .result) w (l .loop .inv .1) g ∙ p .0, p .1)
+    refused turboHasher (a .message .now) (l .loop .hasher) (l .loop .i) k (l .loop .inv) (omega arith) (r .result) (r .ensures) (a .step) (l .before .before .if1 .left) (a .out .now) (c .if2 .taken)
 
 add-i : tie.Need-add-i Inv-loop μ-loop
 add-i c = search needs
@@ -73,15 +69,9 @@ loop-again : tie.Need-loop-again Inv-loop μ-loop
 loop-again c =
     let l = c .before .before .before .before .before .before .before in
     let a = l .before .before .before .before .before .args in
-    let i = l .loop .i in
     let k = c .before .before .before .before .before .least .result in
     let r = c .before .before .before .absorb in
-    let w = r .ensures ∙ same-part (l .loop .hasher) (a .message .now) i k in
-    let g : i + k ≤ limit = fits-limit (l .loop .hasher) (a .message .now) i k (l .loop .inv .2) (omega arith) (r .result) w (l .loop .inv .1) (c .if2 .left) in (
-      omega arith,
-      g,
-      piece-done (l .loop .hasher) (a .message .now) i k (l .loop .inv .2) (omega arith) (r .result) w g .1,
-    )
+    again turboHasher (a .message .now) (l .loop .hasher) (l .loop .i) k (l .loop .inv) (omega arith) (r .result) (r .ensures) (c .if2 .left)
 
 finalize-requires : tie.Need-finalize-requires Inv-loop μ-loop
 finalize-requires c κs = search needs
@@ -94,12 +84,12 @@ same-length c = search needs
 
 returns-3 : tie.Need-returns-3 Inv-loop μ-loop
 returns-3 c =
-    let l = c .before .before .before .before .before .before .before in
+    let e = c .before .before .before .before .before .before in
+    let l = e .before in
     let a = l .before .before .before .before .before .args in
     let f = c .before .before .before .before .before .finalize in
     let q = c .before .before .squeeze in
-    let n : length (a .message .now) ≤ l .loop .i = omega arith in
-    row (l .loop .hasher) (a .message .now) (whole (l .loop .hasher) (a .message .now) (l .loop .i) n (l .loop .inv .2)) (omega arith) (f .result) (f .ensures) (a .out .now) (q .result) (q .ensures .0) (q .last .1 .0) (q .ensures .1) (a .step) (l .before .before .if1 .left)
+    row turboHasher (a .message .now) (l .loop .hasher) (l .loop .i) (l .loop .inv) (e .loop-test .left) (f .result) (f .ensures) (a .out .now) (q .result) (q .ensures .0) (q .last .1 .0) (q .ensures .1) (a .step) (l .before .before .if1 .left)
 
 pub bench-pieces-spec : {M : Type 1} → statement M
 bench-pieces-spec =
