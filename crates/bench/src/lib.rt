@@ -1,4 +1,6 @@
 // What the benchmarks of bench/ call through the C calling convention.
+mod kt;
+
 ghost use mathlib.Core.Path.{_≡_};
 ghost use Prim.Native.Nat.{min};
 ghost use lib.ListN.{length};

@@ -1,0 +1,27 @@
+use borrow.Author.Needs.{needs}
+use Rattle.bench.proofs.kt.bench_kt_one_go.Statement.{statement}
+use Rattle.bench.proofs.kt.bench_kt_one_go.Tie as tie
+use Rattle.bench.proofs.kt.bench_kt_one_go.Reads as reads
+use Rattle.bench.proofs.kt.bench_kt_one_go.Lts as lts
+use Rattle.kangarootwelve.proofs.Kt128.hash.Reads as hash-reads
+
+sub-hash : tie.Need-sub-hash
+sub-hash c = search needs
+
+part-hash-start : tie.Need-part-hash-start
+part-hash-start c = search needs
+
+part-hash-end : tie.Need-part-hash-end
+part-hash-end c = search needs
+
+hash-requires : tie.Need-hash-requires
+hash-requires c κs = search needs
+
+same-length : tie.Need-same-length
+same-length c = search needs
+
+returns : tie.Need-returns
+returns c = let h = c .before .before .hash in (h .ensures .0, h .ensures .1)
+
+pub bench-kt-one-go-spec : {M : Type 1} → statement M
+bench-kt-one-go-spec = tie.close (tie.spec sub-hash part-hash-start part-hash-end hash-requires same-length returns)
