@@ -1,10 +1,9 @@
 -- The two hashers of the benchmarks, TurboSHAKE128 with D = 1F and KT128 with C empty, and their laws of calls in a row.
 -- Assumes nothing.
-use mathlib.Core.Path.{_≡_, ap, _∙_}
+use mathlib.Core.Path.{ap}
 use mathlib.Core.List.{List, []}
 use Prim.Native.Nat.{ℕ, _<_}
 use native.Mathlib.Omega.{arith}
-use lib.ListN.{take}
 use Rattle.turboshake.specs.Model as turboshake
 use Rattle.turboshake.specs.declared.Run as turboshake-run
 use Rattle.turboshake.specs.declared.TurboShake128.{TurboShake128}
@@ -29,8 +28,10 @@ turboHasher = record {
   output = λ h out. turboshake.outputOf 168 (h .run) out;
   argument = 0x1F;
   published = turboshakeWith1F;
+  fresh = record { run = turboshake.freshOf 168 };
   after = λ m. record { run = turboshake-pieces.absorbedRun 168 positive m };
   closed = λ m. record { run = turboshake-pieces.finalizedRun 168 positive m 0x1F };
+  fresh-run = ap (λ (r : turboshake-run.Run). record { run = r }) (turboshake-pieces.fresh-absorbed 168 positive);
   absorb-piece = λ m p l.
       let e = turboshake-pieces.absorb-piece 168 positive m p l in
       (ap (λ (x : turboshake.Answer). x .status) e, ap (λ (x : turboshake.Answer). record { run = x .run }) e);
@@ -50,8 +51,10 @@ ktHasher = record {
   output = λ h out. kt.outputOf 168 32 (h .run) out;
   argument = [];
   published = ktWithNone;
+  fresh = record { run = kt.freshOf 168 32 };
   after = λ m. record { run = kt-pieces.absorbedRun 168 32 positive m };
   closed = λ m. record { run = kt-pieces.finalizedRun 168 32 positive m [] };
+  fresh-run = ap (λ (r : kt-run.Run). record { run = r }) (kt-pieces.fresh-absorbed 168 32 positive);
   absorb-piece = λ m p l.
       let e = kt-pieces.absorb-piece 168 32 positive m p l in
       (ap (λ (x : kt.Answer). x .status) e, ap (λ (x : kt.Answer). record { run = x .run }) e);
@@ -62,10 +65,3 @@ ktHasher = record {
   squeeze-run = λ m out h l. kt-pieces.squeeze-run 168 32 positive m [] out h l;
   squeeze-long = λ m out h l. kt-pieces.squeeze-long 168 32 positive m [] out h l;
 }
-
--- the hashers that the loop starts with
-pub turbo-fresh : (h : TurboShake128) (m : List ℕ) → h ≡ record { run = turboshake.freshOf 168 } → h ≡ turboHasher .after (take 0 m)
-turbo-fresh h m e = e ∙ ap (λ (r : turboshake-run.Run). record { run = r }) (turboshake-pieces.fresh-absorbed 168 positive)
-
-pub kt-fresh : (h : Kt128) (m : List ℕ) → h ≡ record { run = kt.freshOf 168 32 } → h ≡ ktHasher .after (take 0 m)
-kt-fresh h m e = e ∙ ap (λ (r : kt-run.Run). record { run = r }) (kt-pieces.fresh-absorbed 168 32 positive)

@@ -1,8 +1,8 @@
 -- The loop over pieces, once for every hasher: what each of its needs asks, from the laws of calls in a row.
 -- Assumes nothing.
 use mathlib.Core.Path.{_≡_, ap, sym, _∙_}
-use mathlib.Core.List.{List, _++_}
-use Prim.Native.Nat.{ℕ, _+_, _-_, _≤_, _<_}
+use mathlib.Core.List.{List, [], _++_}
+use Prim.Native.Nat.{ℕ, _+_, _-_, _≤_, _<_, zero-le}
 use native.Mathlib.Decide.{decLe}
 use native.Mathlib.Omega.{arith}
 use borrow.Author.Tests.{eq-eqb, ne-eqb, le-leb, lt-leb}
@@ -22,9 +22,11 @@ pub record Hasher (A H X : Type 0) : Type 0 where
   -- the finalize's argument, and the published function with it
   pub argument : A
   pub published : List ℕ → ℕ → List ℕ
-  -- the hasher after a message, and after its finalize
+  -- the hasher at the start, after a message, and after its finalize
+  pub fresh : H
   pub after : List ℕ → H
   pub closed : List ℕ → H
+  pub fresh-run : fresh ≡ after []
   pub absorb-piece : (m p : List ℕ) → length (m ++ p) ≤ limit → (status (answer (after m) (absorb p)) ≡ 0) × (left (answer (after m) (absorb p)) ≡ after (m ++ p))
   pub absorb-long : (m p : List ℕ) → length m ≤ limit → limit < length (m ++ p) → status (answer (after m) (absorb p)) ≡ 2
   pub finalize-run : (m : List ℕ) → length m ≤ limit → left (answer (after m) (finalize argument)) ≡ closed m
@@ -63,6 +65,9 @@ module _ {A H X : Type 0} (R : Hasher A H X) (m : List ℕ) where
   -- the loop's invariant: h has absorbed the first i bytes of m
   abbrev pub Absorbed : H → ℕ → Type 0
   Absorbed h i = (i ≤ length m) × (i ≤ limit) × (h ≡ R .after (take i m))
+
+  pub start : (h : H) → h ≡ R .fresh → Absorbed h 0
+  start h e = (zero-le, zero-le, e ∙ R .fresh-run)
 
   -- h absorbs the k bytes from i on, and a is what it answers
   module _ (h : H) (i k : ℕ) (inv : Absorbed h i) (l : i + k ≤ length m) (a : X) (w : a ≡ R .answer h (absorb (take (i + k - i) (drop i m)))) where

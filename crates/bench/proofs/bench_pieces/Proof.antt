@@ -3,8 +3,8 @@ use native.Mathlib.Omega.{arith}
 use borrow.Author.Needs.{needs}
 use lib.ListN.{length}
 use Rattle.bench.specs.Pieces.{turboshakeWith1F}
-use Rattle.bench.proofs.Pieces.{pieces-9, Absorbed, again, refused, row}
-use Rattle.bench.proofs.Hashers.{turboHasher, turbo-fresh}
+use Rattle.bench.proofs.Pieces.{pieces-9, Absorbed, start, again, refused, row}
+use Rattle.bench.proofs.Hashers.{turboHasher}
 use Rattle.bench.proofs.bench_pieces.Statement.{statement}
 use Rattle.bench.proofs.bench_pieces.Tie as tie
 use Rattle.bench.proofs.bench_pieces.Reads as reads
@@ -28,7 +28,7 @@ fresh-requires : tie.Need-fresh-requires Inv-loop μ-loop
 fresh-requires c κs = search needs
 
 loop-holds : tie.Need-loop-holds Inv-loop μ-loop
-loop-holds c = (omega arith, omega arith, turbo-fresh (c .fresh .result) (c .before .before .before .before .args .message .now) (c .fresh .ensures))
+loop-holds c = start turboHasher (c .before .before .before .before .args .message .now) (c .fresh .result) (c .fresh .ensures)
 
 sub-least : tie.Need-sub-least Inv-loop μ-loop
 sub-least c = search needs
