@@ -1,14 +1,16 @@
 #!/usr/bin/env python3
-"""The independent second program: Keccak-p[1600] and TurboSHAKE in Python, from the papers alone.
+"""The independent second program: Keccak-p[1600], TurboSHAKE and KangarooTwelve in Python, from the papers alone.
 
-Written from FIPS 202 (sections 3.2 to 3.4) and draft-irtf-cfrg-kangarootwelve-16 (section 2), never from the Rattle
+Written from FIPS 202 (sections 3.2 to 3.4) and draft-irtf-cfrg-kangarootwelve-16 (sections 2 and 3), never from the Rattle
 sources. Both tables are computed from the standard's own rules. Standard library only.
 
   reference.py permutation     what the program `permutation` writes
 """
+import functools
 import sys
 
 MASK = (1 << 64) - 1
+CHUNK = 8192
 
 
 def offsets():
@@ -91,9 +93,55 @@ def turboshake(rate, message, domain, length):
     return sponge(12, rate, message, domain, length)
 
 
+def length_encode(x):
+    """Section 3.3: the bytes of x, the most significant first and no leading zero, then their number."""
+    digits = b""
+    while x > 0:
+        digits = bytes([x % 256]) + digits
+        x //= 256
+    return digits + bytes([len(digits)])
+
+
+def merged(message, custom):
+    """Section 3.2: S."""
+    return bytes(message) + bytes(custom) + length_encode(len(custom))
+
+
+def chunks(s):
+    """S_0 to S_(n-1)."""
+    return [s[at : at + CHUNK] for at in range(0, len(s), CHUNK)]
+
+
+@functools.lru_cache(maxsize=2048)  # the same chunks come again and again in the tests, 15 ms each
+def chaining_value(rate, chaining, chunk):
+    return turboshake(rate, chunk, 0x0B, chaining)
+
+
+def final_node(rate, chaining, s):
+    """The final node of S, and the domain byte that goes with it."""
+    first, *rest = chunks(s)
+    if not rest:
+        return first, 0x07
+    values = b"".join(chaining_value(rate, chaining, chunk) for chunk in rest)
+    return first + b"\x03" + bytes(7) + values + length_encode(len(rest)) + b"\xff\xff", 0x06
+
+
+def kangarootwelve(rate, chaining, message, custom, length):
+    """KT128 (rate 168, chaining values of 32 bytes) and KT256 (136 and 64), sections 3.2 and 3.4."""
+    return turboshake(rate, *final_node(rate, chaining, merged(message, custom)), length)
+
+
+def kt128(message, custom, length):
+    return kangarootwelve(168, 32, message, custom, length)
+
+
+def kt256(message, custom, length):
+    return kangarootwelve(136, 64, message, custom, length)
+
+
 def ptn(n):
     """The draft's test pattern: 00 to FA, over and over, n bytes."""
-    return bytes(i % 251 for i in range(n))
+    return (bytes(range(251)) * (n // 251 + 1))[:n]
 
 
 def permutation_output():

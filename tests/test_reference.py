@@ -76,5 +76,60 @@ class Sponge(unittest.TestCase):
         self.assertEqual(checked, 29)
 
 
+class KangarooTwelve(unittest.TestCase):
+    FUNCTIONS = {"KT128": reference.kt128, "KT256": reference.kt256}
+
+    def test_length_encode(self):
+        """Document 01's list."""
+        encoded = {0: "00", 12: "0C 01", 255: "FF 01", 256: "01 00 02", 65_535: "FF FF 02", 65_538: "01 00 02 03"}
+        self.assertEqual({x: reference.length_encode(x) for x in encoded}, {x: bytes.fromhex(text) for x, text in encoded.items()})
+
+    def test_merged(self):
+        """Document 01's list."""
+        for message, custom, s in (("", "", "00"), ("FF", "", "FF 00"), ("", "FF", "FF 01 01")):
+            self.assertEqual(reference.merged(bytes.fromhex(message), bytes.fromhex(custom)), bytes.fromhex(s))
+
+    def test_chunks(self):
+        """Document 01's list, and the parts joined are the whole."""
+        for size, count in ((1, 1), (8192, 1), (8193, 2), (16_384, 2), (16_385, 3)):
+            parts = reference.chunks(reference.ptn(size))
+            self.assertEqual(len(parts), count)
+            self.assertEqual(b"".join(parts), reference.ptn(size))
+            self.assertEqual({len(part) for part in parts[:-1]} - {8192}, set())
+
+    def test_both_sides_of_a_chunk(self):
+        """Document 01: C empty, M of 8,191 bytes is one chunk, of 8,192 two; M of 8,192, C of 8,189 gives two, of 8,190 three."""
+        for message, custom, count in ((8191, 0, 1), (8192, 0, 2), (8192, 8189, 2), (8192, 8190, 3)):
+            s = reference.merged(reference.ptn(message), reference.ptn(custom))
+            self.assertEqual(len(reference.chunks(s)), count)
+            node, domain = reference.final_node(168, 32, s)
+            self.assertEqual(domain, 0x07 if count == 1 else 0x06)
+            self.assertEqual(len(node), len(s) if count == 1 else 8192 + 8 + 32 * (count - 1) + 2 + 2)
+
+    def test_draft(self):
+        """All vectors but the two of 17**5 bytes, 5 s in Python, and the two of 17**6; those with a C of 41**3 bytes too."""
+        checked = 0
+        for v in vectors.kt():
+            if v.size <= 17**4:
+                out = self.FUNCTIONS[v.function](v.message(), reference.ptn(v.custom), v.length)
+                self.assertEqual(out[-len(v.digest) :], v.digest, v)
+                checked += 1
+        self.assertEqual(checked, 32)
+
+    def test_older_draft(self):
+        """Each of the 14 vectors of draft-viguier-kangarootwelve-01 is one of the newer draft's: it adds none."""
+        newer = {v._replace(message=None) for v in vectors.kt()}
+        older = [v._replace(message=None) for v in vectors.kangarootwelve()]
+        self.assertEqual(len(older), 14)
+        self.assertEqual(set(older) - newer, set())
+
+    def test_scope(self):
+        """The two that document 01 prints."""
+        digest = "CB552E2EC77D9910701D578B457DDF772C12E322E4EE7FE417F92C758F0D59D0"
+        self.assertEqual(reference.kt128(reference.ptn(17**3), b"", 32).hex().upper(), digest)
+        digest = "FAB658DB63E94A246188BF7AF69A133045F46EE984C56E3C3328CAAF1AA1A583"
+        self.assertEqual(reference.kt128(b"", reference.ptn(1), 32).hex().upper(), digest)
+
+
 if __name__ == "__main__":
     unittest.main()

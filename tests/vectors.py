@@ -1,4 +1,4 @@
-"""Reads the vectors of the draft, kept in tests/vectors/ in the draft's own notation."""
+"""Reads the vectors of the drafts, kept in tests/vectors/ in the drafts' own notation."""
 import re
 from collections import namedtuple
 from pathlib import Path
@@ -6,17 +6,23 @@ from pathlib import Path
 import reference
 
 FOLDER = Path(__file__).parent / "vectors"
-LINE = re.compile(r"(\w+)\(M=(.+?), D=`(\w\w)`, (\d+)\)(?:, last (\d+) bytes)?: `([0-9A-F ]+)`")
+ASKED = r"(\d+)\)(?:, last (\d+) bytes)?: `([0-9A-F ]+)`"
+TURBOSHAKE = re.compile(r"(\w+)\(M=(.+?), D=`(\w\w)`, " + ASKED)
+KT = re.compile(r"(\w+)\((?:M=)?(.+?), C=(.+?), " + ASKED)
+PATTERN = re.compile(r"ptn\((\d+)(?:\*\*(\d))?(?: bytes)?\)")
 
 # what is asked of the function, and the bytes printed: the whole output, or its last ones; the kind of the message is ptn or ff
 Vector = namedtuple("Vector", "function kind size message domain length digest")
+# the same of KT: `custom` is the length of the customization string, which is ptn in every one
+KtVector = namedtuple("KtVector", "function kind size message custom length digest")
 
 
 def message_of(text):
-    """(kind, length, a function that makes the bytes) of a message in the draft's notation; the empty one counts as ptn."""
-    pattern = re.fullmatch(r"ptn\(17\*\*(\d) bytes\)", text)
+    """(kind, length, a function that makes the bytes) of a message in the drafts' notation; the empty one counts as ptn."""
+    pattern = PATTERN.fullmatch(text)
     if pattern:
-        size = 17 ** int(pattern.group(1))
+        base, power = pattern.groups()
+        size = int(base) ** int(power or 1)
         return "ptn", size, lambda: reference.ptn(size)
     if text == "`00`^0":
         return "ptn", 0, lambda: b""
@@ -26,15 +32,40 @@ def message_of(text):
     return "ff", len(data), lambda: data
 
 
-def turboshake():
-    for line in (FOLDER / "turboshake.txt").read_text().splitlines():
+def custom_of(text):
+    kind, size, _ = message_of(text)
+    if kind != "ptn":
+        raise ValueError(f"a customization string of no known kind: {text}")
+    return size
+
+
+def lines_of(file, form):
+    """The parts of each vector in a file; the length asked and the bytes printed come last."""
+    for line in (FOLDER / file).read_text().splitlines():
         if line.startswith("#"):
             continue
-        found = LINE.fullmatch(line)
+        found = form.fullmatch(line)
         if not found:
             raise ValueError(f"not a vector: {line}")
-        function, message, domain, length, last, digest = found.groups()
+        *parts, length, last, digest = found.groups()
         digest = bytes.fromhex(digest)
         if len(digest) != int(last or length):
             raise ValueError(f"a digest of another length than it says: {line}")
-        yield Vector(function, *message_of(message), int(domain, 16), int(length), digest)
+        yield *parts, int(length), digest
+
+
+def turboshake():
+    for function, message, domain, length, digest in lines_of("turboshake.txt", TURBOSHAKE):
+        yield Vector(function, *message_of(message), int(domain, 16), length, digest)
+
+
+def kt():
+    """The KT128 and KT256 vectors of draft-irtf-cfrg-kangarootwelve-16."""
+    for function, message, custom, length, digest in lines_of("kt.txt", KT):
+        yield KtVector(function, *message_of(message), custom_of(custom), length, digest)
+
+
+def kangarootwelve():
+    """The vectors of draft-viguier-kangarootwelve-01, whose KangarooTwelve is KT128."""
+    for _, message, custom, length, digest in lines_of("kangarootwelve.txt", KT):
+        yield KtVector("KT128", *message_of(message), custom_of(custom), length, digest)
