@@ -63,6 +63,11 @@ def keccak_p(lanes, rounds):
     return a
 
 
+@functools.lru_cache(maxsize=1 << 15)  # the tests come to the same states in more than one way, and a permutation takes 0.3 ms
+def permuted(lanes, rounds):
+    return tuple(keccak_p(lanes, rounds))
+
+
 def state_of(data):
     """200 bytes as 25 lanes: lane (x, y) is bytes 8 (x + 5 y) on, the least significant first."""
     return [int.from_bytes(data[8 * i : 8 * i + 8], "little") for i in range(25)]
@@ -77,13 +82,13 @@ def sponge(rounds, rate, message, last, length):
     data = bytearray(message) + bytes([last])
     data += bytes(-len(data) % rate)
     data[-1] ^= 0x80
-    state = [0] * 25
+    state = (0,) * 25
     for at in range(0, len(data), rate):
         block = state_of(bytes(data[at : at + rate]).ljust(200, b"\0"))
-        state = keccak_p([v ^ w for v, w in zip(state, block)], rounds)
+        state = permuted(tuple(v ^ w for v, w in zip(state, block)), rounds)
     out = bytes_of(state)[:rate]
     while len(out) < length:
-        state = keccak_p(state, rounds)
+        state = permuted(state, rounds)
         out += bytes_of(state)[:rate]
     return out[:length]
 

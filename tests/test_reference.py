@@ -107,14 +107,11 @@ class KangarooTwelve(unittest.TestCase):
             self.assertEqual(len(node), len(s) if count == 1 else 8192 + 8 + 32 * (count - 1) + 2 + 2)
 
     def test_draft(self):
-        """All vectors but the two of 17**5 bytes, 5 s in Python, and the two of 17**6; those with a C of 41**3 bytes too."""
-        checked = 0
+        """All vectors, those with a C of 41**3 bytes too. ptn has only 251 chunks that differ, so the long ones take seconds."""
         for v in vectors.kt():
-            if v.size <= 17**4:
-                out = self.FUNCTIONS[v.function](v.message(), reference.ptn(v.custom), v.length)
-                self.assertEqual(out[-len(v.digest) :], v.digest, v)
-                checked += 1
-        self.assertEqual(checked, 32)
+            out = self.FUNCTIONS[v.function](v.message(), reference.ptn(v.custom), v.length)
+            self.assertEqual(out[-len(v.digest) :], v.digest, v)
+        self.assertEqual(len(list(vectors.kt())), 36)
 
     def test_older_draft(self):
         """Each of the 14 vectors of draft-viguier-kangarootwelve-01 is one of the newer draft's: it adds none."""

@@ -4,10 +4,11 @@ import unittest
 
 import reference
 import transcript
-from transcript import Run, Transcript
+from transcript import CHAINING, KT, TURBOSHAKE, KtRun, KtTranscript, Run, Sponge, Transcript
 
 # Low enough that random lists of calls pass them.
 ABSORB_LIMIT, SQUEEZE_LIMIT = 900, 700
+KT_ABSORB_LIMIT = 26_000
 
 
 class ShortTranscript(Transcript):
@@ -18,22 +19,49 @@ class ShortRun(Run):
     ABSORB_LIMIT, SQUEEZE_LIMIT = ABSORB_LIMIT, SQUEEZE_LIMIT
 
 
-class SmallRun(Run):
-    """One whose states are few enough to visit all; the lanes play no part in them."""
+class ShortKtTranscript(KtTranscript):
+    ABSORB_LIMIT, SQUEEZE_LIMIT = KT_ABSORB_LIMIT, SQUEEZE_LIMIT
 
-    ABSORB_LIMIT, SQUEEZE_LIMIT = 20, 17
+
+class ShortKtRun(KtRun):
+    ABSORB_LIMIT, SQUEEZE_LIMIT = KT_ABSORB_LIMIT, SQUEEZE_LIMIT
+
+
+class SmallSponge(Sponge):
+    """The lanes play no part."""
 
     def permute(self):
         self.position = 0
 
+
+class SmallRun(Run):
+    """One whose states are few enough to visit all."""
+
+    ABSORB_LIMIT, SQUEEZE_LIMIT, RATE = 20, 17, 8
+    SPONGE = SmallSponge
+
+    def __init__(self):
+        super().__init__(self.RATE)
+
     def key(self):
-        return self.phase, self.absorbed, self.squeezed, self.position
+        return self.phase, self.absorbed, self.squeezed, *(sponge.position for sponge in self.sponges())
+
+    def set(self, phase, absorbed, squeezed, *positions):
+        self.phase, self.absorbed, self.squeezed = phase, absorbed, squeezed
+        for sponge, position in zip(self.sponges(), positions):
+            sponge.position = position
+        return self
 
 
-def small_run(phase, absorbed, squeezed, position):
-    run = SmallRun(8)
-    run.phase, run.absorbed, run.squeezed, run.position = phase, absorbed, squeezed, position
-    return run
+class SmallKtRun(SmallRun, KtRun):
+    """Chunks of 6 bytes, blocks of 4, chaining values of 3: chunks end in the middle of a block and at its end."""
+
+    ABSORB_LIMIT, SQUEEZE_LIMIT, RATE, CHUNK = 20, 9, 4, 6
+
+    def __init__(self):
+        Run.__init__(self, self.RATE)
+        self.leaf = self.SPONGE(self.RATE)
+        self.chaining = 3
 
 
 class Agreement(unittest.TestCase):
@@ -48,7 +76,7 @@ class Agreement(unittest.TestCase):
         source = random.Random(3)
         seen = set()
         for n in range(120):
-            rate = transcript.RATES[n % 2]
+            rate = TURBOSHAKE[n % 2]
             book, run = ShortTranscript(rate), ShortRun(rate)
             for _ in range(12):
                 name = source.choice(("absorb", "absorb", "finalize", "squeeze", "squeeze", "squeeze"))
@@ -57,37 +85,93 @@ class Agreement(unittest.TestCase):
                 seen.add((name, self.both(book, run, name, argument)))
         self.assertEqual(seen, {("absorb", s) for s in (0, 2, 3)} | {("finalize", s) for s in (0, 1, 3)} | {("squeeze", s) for s in (0, 3, 6)})
 
+    def test_random_kt_lists(self):
+        """Through up to four chunks; a piece often ends at, one before or one past a chunk's end."""
+        source = random.Random(4)
+        seen = set()
+        for n in range(60):
+            book, run = ShortKtTranscript(KT[2 + n % 2]), ShortKtRun(KT[2 + n % 2])
+            for _ in range(14):
+                name = source.choice(("absorb",) * 5 + ("finalize", "squeeze", "squeeze", "squeeze"))
+                size = source.choice((0, 1, 2, source.randrange(9000), max(0, -run.absorbed % 8192 + source.choice((-1, 0, 1)))))
+                custom = source.choice((0, 1, 255, 256, source.randrange(9000), max(0, -run.absorbed % 8192 - source.randrange(4)), 65_536))
+                arguments = {"absorb": reference.ptn(size), "squeeze": size % 500, "finalize": reference.ptn(custom)}
+                seen.add((name, self.both(book, run, name, arguments[name])))
+        self.assertEqual(seen, {("absorb", s) for s in (0, 2, 3)} | {("finalize", s) for s in (0, 3, 4)} | {("squeeze", s) for s in (0, 3, 6)})
+
     def test_equal_books_leave_equal_runs(self):
-        message = reference.ptn(700)
-        runs = []
-        for step, size in ((1, 1), (7, 5), (168, 168), (169, 167), (700, 500)):
-            run = Run(168)
-            for at in range(0, 700, step):
-                run.absorb(message[at : at + step])
-            run.finalize(0x1F)
-            for at in range(0, 500, size):
-                run.squeeze(min(size, 500 - at))
-            runs.append(vars(run))
-        self.assertEqual(runs, [runs[0]] * 5)
+        for kind, argument, size, steps in ((Run, 0x1F, 700, (1, 7, 168, 169, 700)), (KtRun, b"abc", 17_000, (97, 168, 8191, 8192, 17_000))):
+            message = reference.ptn(size)
+            runs = []
+            for step, asked in zip(steps, (1, 5, 168, 167, 500)):
+                run = kind(168)
+                for at in range(0, size, step):
+                    run.absorb(message[at : at + step])
+                run.finalize(argument)
+                for at in range(0, 500, asked):
+                    run.squeeze(min(asked, 500 - at))
+                runs.append([run.phase, run.absorbed, run.squeezed, *(vars(sponge) for sponge in run.sponges())])
+            self.assertEqual(runs, [runs[0]] * 5)
+
+
+class Leaf(unittest.TestCase):
+    def test_kept_until_the_next_byte(self):
+        """A full leaf stays in hand; the next byte puts its chaining value into the final node and starts a fresh leaf."""
+        for rate in KT.values():
+            run = KtRun(rate)
+            run.absorb(reference.ptn(16_384))
+            self.assertEqual(run.leaf.position, (8192 - 1) % rate + 1)
+            run.absorb(b"\x07")
+            self.assertEqual((run.leaf.position, run.leaf.lanes), (1, [7] + [0] * 24))
+            node = reference.ptn(8192) + b"\x03" + bytes(7)
+            node += reference.turboshake(rate, reference.ptn(16_384)[8192:], 0x0B, CHAINING[rate])
+            alone = Sponge(rate)
+            alone.absorb(node)
+            self.assertEqual(vars(run.node), vars(alone))
+
+    def test_no_leaf_before_its_first_byte(self):
+        for size in (0, 1, 8191, 8192):
+            run = KtRun(168)
+            run.absorb(reference.ptn(size))
+            self.assertEqual(vars(run.leaf), vars(Sponge(168)))
+            self.assertEqual(run.node.position, transcript.position_after(168, size))
+
+    def test_fresh_after_the_finalize(self):
+        for size in (0, 8191, 8192, 20_000):
+            run = KtRun(136)
+            run.absorb(reference.ptn(size))
+            run.finalize(b"")
+            self.assertEqual(vars(run.leaf), vars(Sponge(136)))
+            self.assertEqual(run.node.position, 0)
 
 
 class Reached(unittest.TestCase):
-    def test_by_every_call_from_a_fresh_run(self):
-        """Visits all that calls reach from a fresh run, then asks is_reached of every phase, total and position near them."""
-        reached, left = set(), [SmallRun(8).key()]
+    def reached_from_fresh(self, kind, arguments):
+        reached, left = set(), [kind().key()]
         while left:
             key = left.pop()
             if key in reached:
                 continue
             reached.add(key)
             for size in range(12):
-                for name, argument in (("absorb", bytes(size)), ("squeeze", size), ("finalize", 0x1F)):
-                    run = small_run(*key)
+                for name, argument in (("absorb", bytes(size)), ("squeeze", size), *(("finalize", a) for a in arguments)):
+                    run = kind().set(*key)
                     getattr(run, name)(argument)
                     left.append(run.key())
+        return reached
+
+    def test_by_every_call_from_a_fresh_run(self):
+        """Visits all that calls reach from a fresh run, then asks is_reached of every phase, total and position near them."""
+        reached = self.reached_from_fresh(SmallRun, (0x1F,))
         fields = ((p, a, s, at) for p in range(4) for a in range(24) for s in range(20) for at in range(11))
-        self.assertEqual({key for key in fields if small_run(*key).is_reached()}, reached)
+        self.assertEqual({key for key in fields if SmallRun().set(*key).is_reached()}, reached)
         self.assertEqual(len(reached), 21 + 21 * 18)
+
+    def test_by_every_kt_call(self):
+        reached = self.reached_from_fresh(SmallKtRun, (b"", bytes(5)))
+        fields = ((p, a, s, node, leaf) for p in range(3) for a in range(23) for s in range(11) for node in range(6) for leaf in range(6))
+        self.assertEqual({key for key in fields if SmallKtRun().set(*key).is_reached()}, reached)
+        self.assertEqual(len(reached), 21 + 21 * 10)
 
 
 class OneGo(unittest.TestCase):
@@ -98,6 +182,23 @@ class OneGo(unittest.TestCase):
         self.assertEqual(transcript.one_go_status(over - 1, 0x01, 0), 7)
         self.assertEqual(transcript.one_go_status(over - 1, 0x01, over), 6)
         self.assertEqual(transcript.one_go_status(over - 1, 0x01, over - 1), 0)
+
+    def test_order_of_the_kt_refusals(self):
+        over = 4_294_967_296
+        self.assertEqual(transcript.kt_one_go_status(over, bytes(65_536), 0), 2)
+        self.assertEqual(transcript.kt_one_go_status(over - 1, bytes(65_536), 0), 4)
+        self.assertEqual(transcript.kt_one_go_status(over - 1, bytes(65_536), over), 4)
+        self.assertEqual(transcript.kt_one_go_status(over - 1, bytes(65_535), 0), 7)
+        self.assertEqual(transcript.kt_one_go_status(over - 1, bytes(65_535), over), 6)
+        self.assertEqual(transcript.kt_one_go_status(over - 1, bytes(65_535), over - 1), 0)
+
+    def test_same_as_the_run(self):
+        for function, rate in KT.items():
+            for size, custom in ((0, 0), (8191, 0), (8192, 0), (8192, 8189), (8192, 8190), (100, 20_000)):
+                run = KtRun(rate)
+                run.absorb(reference.ptn(size))
+                run.finalize(reference.ptn(custom))
+                self.assertEqual(transcript.kt_one_go(rate, reference.ptn(size), reference.ptn(custom), 300), run.squeeze(300), function)
 
 
 if __name__ == "__main__":

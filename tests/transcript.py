@@ -1,19 +1,30 @@
-"""What any list of TurboSHAKE calls must answer: document 01's book, and a run with its fields.
+"""What any list of calls must answer: document 01's book, and a run with its fields.
 
-`Transcript` is the book: it gets the arguments of each call alone, and says its status and its bytes. `Run` has the fields of a run,
-so it also answers for one whose fields were overwritten, of which the book says nothing. Written from document 01 and the draft,
-never from the Rattle sources.
+`Transcript` and `KtTranscript` are the books: they get the arguments of each call alone, and say its status and its bytes. `Run` and
+`KtRun` have the fields of a run, so they also answer for one whose fields were overwritten, of which the book says nothing. Written from
+document 01 and the draft, never from the Rattle sources.
 """
 import reference
 
-RATES = (168, 136)  # functions 0 and 1: TurboSHAKE128 and TurboSHAKE256
+TURBOSHAKE = {0: 168, 1: 136}  # the rates of functions 0 and 1: TurboSHAKE128 and TurboSHAKE256
+KT = {2: 168, 3: 136}  # those of 2 and 3: KT128 and KT256
+RATES = TURBOSHAKE | KT
+CHAINING = {168: 32, 136: 64}  # the chaining length of each strength, by its rate
 ABSORBING, FINALIZED = 0, 1
-DONE, BAD_DOMAIN, TOO_LONG, WRONG_PHASE, NOT_REACHED, TOO_MUCH, NOTHING_ASKED = 0, 1, 2, 3, 5, 6, 7
+DONE, BAD_DOMAIN, TOO_LONG, WRONG_PHASE, CUSTOM_TOO_LONG, NOT_REACHED, TOO_MUCH, NOTHING_ASKED = range(8)
+SINGLE_NODE, INTERMEDIATE_NODE, FINAL_NODE = 0x07, 0x0B, 0x06
+FIRST_CHUNK_END = b"\x03" + bytes(7)
+FINAL_NODE_END = b"\xff\xff"
 
 
-def bad_domain(domain):
+def domain_status(domain):
     """Answer 1: the domain byte is 00 or 80 to FF."""
-    return not 0x01 <= domain <= 0x7F
+    return DONE if 0x01 <= domain <= 0x7F else BAD_DOMAIN
+
+
+def custom_status(custom):
+    """Answer 4: the customization string is longer than 65,535 bytes."""
+    return CUSTOM_TOO_LONG if len(custom) > 65_535 else DONE
 
 
 class Limits:
@@ -24,13 +35,15 @@ class Limits:
 
 
 class Transcript(Limits):
-    """The book of one run: the bytes fed, the phase, the domain byte of the finalize, the number of bytes read."""
+    """The book of one run: the bytes fed, the phase, the argument of the finalize, the number of bytes read."""
+
+    argument_status = staticmethod(domain_status)
 
     def __init__(self, rate):
         self.rate = rate
         self.fed = bytearray()
         self.phase = ABSORBING
-        self.domain = None
+        self.argument = None
         self.read = 0
         self.output = b""  # the first bytes of the published output, as many as were worked out
 
@@ -42,13 +55,13 @@ class Transcript(Limits):
         self.fed += piece
         return DONE
 
-    def finalize(self, domain):
+    def finalize(self, argument):
         if self.phase != ABSORBING:
             return WRONG_PHASE
-        if bad_domain(domain):
-            return BAD_DOMAIN
-        self.phase, self.domain = FINALIZED, domain
-        return DONE
+        status = self.argument_status(argument)
+        if status == DONE:
+            self.phase, self.argument = FINALIZED, argument
+        return status
 
     def squeeze(self, size):
         """The status, and the bytes that a done squeeze gives."""
@@ -57,46 +70,42 @@ class Transcript(Limits):
         if self.read + size > self.SQUEEZE_LIMIT:
             return TOO_MUCH, None
         start, self.read = self.read, self.read + size
-        return DONE, self.published(self.read)[start:]
+        return DONE, self.first(self.read)[start:]
 
-    def published(self, size):
+    def first(self, size):
         """The first `size` bytes of the published output. More are kept than asked, so that many small squeezes stay cheap."""
         if len(self.output) < size:
-            self.output = reference.turboshake(self.rate, self.fed, self.domain, max(size, 2 * len(self.output), self.rate))
+            self.output = self.published(max(size, 2 * len(self.output), self.rate))
         return self.output[:size]
 
+    def published(self, size):
+        return reference.turboshake(self.rate, self.fed, self.argument, size)
 
-class Run(Limits):
-    """The fields of a run, and what each call does to them."""
+
+class KtTranscript(Transcript):
+    """The book of a KT run: the argument of the finalize is the customization string."""
+
+    argument_status = staticmethod(custom_status)
+
+    def published(self, size):
+        return reference.kangarootwelve(self.rate, CHAINING[self.rate], self.fed, self.argument, size)
+
+
+def position_after(rate, total):
+    """A full block is permuted only when its next byte comes, or is asked: so the position after n > 0 bytes is 1 to the rate."""
+    return (total - 1) % rate + 1 if total else 0
+
+
+class Sponge:
+    """25 lanes and a position."""
 
     def __init__(self, rate):
         self.rate = rate
-        self.phase = ABSORBING
-        self.absorbed = 0
-        self.squeezed = 0
         self.position = 0
         self.lanes = [0] * 25
 
-    def position_after(self, total):
-        """A full block is permuted only when its next byte comes, or is asked: so the position after n > 0 bytes is 1 to the rate."""
-        return (total - 1) % self.rate + 1 if total else 0
-
-    def is_reached(self):
-        """Whether calls from a fresh run reach this phase, these totals and this position together. The lanes are not looked at."""
-        if self.absorbed > self.ABSORB_LIMIT or self.squeezed > self.SQUEEZE_LIMIT:
-            return False
-        if self.phase == ABSORBING:
-            return self.squeezed == 0 and self.position == self.position_after(self.absorbed)
-        return self.phase == FINALIZED and self.position == self.position_after(self.squeezed)
-
-    def refusal(self, phase):
-        """The answers that come before all others, for a call that belongs to `phase`; 0 where neither is due."""
-        if not self.is_reached():
-            return NOT_REACHED
-        return DONE if self.phase == phase else WRONG_PHASE
-
     def permute(self):
-        self.lanes = reference.keccak_p(self.lanes, 12)
+        self.lanes = list(reference.permuted(tuple(self.lanes), 12))
         self.position = 0
 
     def mix(self, start, part):
@@ -104,36 +113,83 @@ class Run(Limits):
         block = reference.state_of((bytes(start) + part).ljust(200, b"\0"))
         self.lanes = [v ^ w for v, w in zip(self.lanes, block)]
 
-    def absorb(self, piece):
-        status = self.refusal(ABSORBING)
-        if status == DONE and self.absorbed + len(piece) > self.ABSORB_LIMIT:
-            status = TOO_LONG
-        if status != DONE:
-            return status
+    def absorb(self, data):
         taken = 0
-        while taken < len(piece):
+        while taken < len(data):
             if self.position == self.rate:
                 self.permute()
-            part = piece[taken : taken + self.rate - self.position]
+            part = data[taken : taken + self.rate - self.position]
             self.mix(self.position, part)
             self.position += len(part)
             taken += len(part)
-        self.absorbed += len(piece)
-        return DONE
 
-    def finalize(self, domain):
-        status = self.refusal(ABSORBING)
-        if status == DONE and bad_domain(domain):
-            status = BAD_DOMAIN
-        if status != DONE:
-            return status
+    def pad(self, domain):
         if self.position == self.rate:
             self.permute()
         self.mix(self.position, bytes([domain]))
         self.mix(self.rate - 1, b"\x80")
         self.permute()
-        self.phase = FINALIZED
-        return DONE
+
+    def squeeze(self, size):
+        out = b""
+        while len(out) < size:
+            if self.position == self.rate:
+                self.permute()
+            part = reference.bytes_of(self.lanes)[self.position : self.rate][: size - len(out)]
+            self.position += len(part)
+            out += part
+        return out
+
+
+class Run(Limits):
+    """The fields of a run, and what each call does to them."""
+
+    SPONGE = Sponge
+    argument_status = staticmethod(domain_status)
+
+    def __init__(self, rate):
+        self.rate = rate
+        self.phase = ABSORBING
+        self.absorbed = 0
+        self.squeezed = 0
+        self.node = self.SPONGE(rate)  # the final node of a KT run; the only sponge of a TurboSHAKE run
+
+    def sponges(self):
+        return (self.node,)
+
+    def positions_due(self):
+        """The position of each sponge of a run that has this phase and these totals."""
+        return (position_after(self.rate, self.absorbed if self.phase == ABSORBING else self.squeezed),)
+
+    def is_reached(self):
+        """Whether calls from a fresh run reach this phase, these totals and positions together. The lanes are not looked at."""
+        if self.absorbed > self.ABSORB_LIMIT or self.squeezed > self.SQUEEZE_LIMIT:
+            return False
+        if self.phase not in (ABSORBING, FINALIZED) or (self.phase == ABSORBING and self.squeezed):
+            return False
+        return tuple(sponge.position for sponge in self.sponges()) == self.positions_due()
+
+    def refusal(self, phase):
+        """The answers that come before all others, for a call that belongs to `phase`; 0 where neither is due."""
+        if not self.is_reached():
+            return NOT_REACHED
+        return DONE if self.phase == phase else WRONG_PHASE
+
+    def absorb(self, piece):
+        status = self.refusal(ABSORBING)
+        if status == DONE and self.absorbed + len(piece) > self.ABSORB_LIMIT:
+            status = TOO_LONG
+        if status == DONE:
+            self.take(piece)
+            self.absorbed += len(piece)
+        return status
+
+    def finalize(self, argument):
+        status = self.refusal(ABSORBING) or self.argument_status(argument)
+        if status == DONE:
+            self.close(argument)
+            self.phase = FINALIZED
+        return status
 
     def squeeze(self, size):
         """The status, and the bytes that a done squeeze gives."""
@@ -142,21 +198,86 @@ class Run(Limits):
             status = TOO_MUCH
         if status != DONE:
             return status, None
-        out = b""
-        while len(out) < size:
-            if self.position == self.rate:
-                self.permute()
-            part = reference.bytes_of(self.lanes)[self.position : self.rate][: size - len(out)]
-            self.position += len(part)
-            out += part
         self.squeezed += size
-        return DONE, out
+        return DONE, self.node.squeeze(size)
+
+    def take(self, piece):
+        self.node.absorb(piece)
+
+    def close(self, domain):
+        self.node.pad(domain)
 
 
-def one_go_status(message_size, domain, size):
-    """The status of a one-go call, from the length of its message, the domain byte and the number of bytes asked."""
-    if bad_domain(domain):
-        return BAD_DOMAIN
+class KtRun(Run):
+    """The fields of a KT run: a second sponge for the leaf in hand."""
+
+    CHUNK = reference.CHUNK
+    argument_status = staticmethod(custom_status)
+
+    def __init__(self, rate):
+        super().__init__(rate)
+        self.leaf = self.SPONGE(rate)
+        self.chaining = CHAINING[rate]
+
+    def sponges(self):
+        return self.node, self.leaf
+
+    def positions_due(self):
+        if self.phase != ABSORBING:
+            return position_after(self.rate, self.squeezed), 0
+        if self.absorbed <= self.CHUNK:
+            return position_after(self.rate, self.absorbed), 0
+        closed = (self.absorbed - 1) // self.CHUNK  # the chunk in hand is closed only when the next one's first byte comes
+        node = self.CHUNK + len(FIRST_CHUNK_END) + (closed - 1) * self.chaining
+        return position_after(self.rate, node), position_after(self.rate, self.absorbed - closed * self.CHUNK)
+
+    def take(self, piece):
+        self.feed(self.absorbed, piece)
+
+    def feed(self, start, data):
+        """Takes the bytes of S from byte `start` on."""
+        taken = 0
+        while taken < len(data):
+            at = start + taken
+            if at and at % self.CHUNK == 0:
+                self.close_chunk(at // self.CHUNK - 1)
+            part = data[taken : taken + self.CHUNK - at % self.CHUNK]
+            (self.node if at < self.CHUNK else self.leaf).absorb(part)
+            taken += len(part)
+
+    def close_chunk(self, number):
+        """The leaf is fresh after each leaf's end. The end of chunk 0 does not look at it."""
+        if number == 0:
+            self.node.absorb(FIRST_CHUNK_END)
+            return
+        self.leaf.pad(INTERMEDIATE_NODE)
+        self.node.absorb(self.leaf.squeeze(self.chaining))
+        self.leaf = self.SPONGE(self.rate)
+
+    def close(self, custom):
+        """The leaf is fresh afterwards, so that in a finalized run its position says nothing."""
+        rest = custom + reference.length_encode(len(custom))
+        self.feed(self.absorbed, rest)
+        last = (self.absorbed + len(rest) - 1) // self.CHUNK
+        if last == 0:
+            self.node.pad(SINGLE_NODE)
+        else:
+            self.close_chunk(last)
+            self.node.absorb(reference.length_encode(last) + FINAL_NODE_END)
+            self.node.pad(FINAL_NODE)
+        self.leaf = self.SPONGE(self.rate)
+
+
+def book_of(function):
+    return (Transcript if function in TURBOSHAKE else KtTranscript)(RATES[function])
+
+
+def run_of(function):
+    return (Run if function in TURBOSHAKE else KtRun)(RATES[function])
+
+
+def lengths_status(message_size, size):
+    """The answers of a one-go call that its lengths decide: 2, 7 and 6."""
     if message_size > Limits.ABSORB_LIMIT:
         return TOO_LONG
     if size == 0:
@@ -164,7 +285,23 @@ def one_go_status(message_size, domain, size):
     return TOO_MUCH if size > Limits.SQUEEZE_LIMIT else DONE
 
 
+def one_go_status(message_size, domain, size):
+    """The status of a TurboSHAKE call in one go: 1, 2, 7, 6, in this order."""
+    return domain_status(domain) or lengths_status(message_size, size)
+
+
+def kt_one_go_status(message_size, custom, size):
+    """The status of a KT call in one go: 2, 4, 7, 6, in this order."""
+    status = lengths_status(message_size, size)
+    return status if status == TOO_LONG else custom_status(custom) or status
+
+
 def one_go(rate, message, domain, size):
     """The status of a one-go call, and the bytes that a done one gives."""
     status = one_go_status(len(message), domain, size)
     return status, reference.turboshake(rate, message, domain, size) if status == DONE else None
+
+
+def kt_one_go(rate, message, custom, size):
+    status = kt_one_go_status(len(message), custom, size)
+    return status, reference.kangarootwelve(rate, CHAINING[rate], message, custom, size) if status == DONE else None
