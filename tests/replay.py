@@ -5,16 +5,19 @@ for each and writes one line. What the line must say is transcript.py's to decid
 """
 import subprocess
 import tempfile
+import unittest
 from collections import Counter
 from pathlib import Path
 
 import transcript
-from transcript import RATES, Run, Transcript
+from transcript import RATES, TURBOSHAKE
 
 PROGRAM = Path(__file__).resolve().parent.parent / "target/bin/replay"
+SEED = 20  # of every random list
 MOST = 262_144  # the length of the program's buffers
 BEFORE = b"\xa5"  # each byte of the buffer that a squeeze is given
-PHASE, ABSORBED, SQUEEZED, POSITION, LANES = 0, 1, 2, 3, 64  # the fields that S writes; lane i is 64 + i
+# The fields that S writes. Lane i is 64 + i; the leaf's, which only a KT run has, 96 + i.
+PHASE, ABSORBED, SQUEEZED, POSITION, LEAF_POSITION, LANES, LEAF_LANES = 0, 1, 2, 3, 4, 64, 96
 
 
 def record(op, payload=b"", n=None):
@@ -28,6 +31,12 @@ def set_record(field, value):
 
 def one_go_record(function, domain, size, message):
     return record("T", bytes([function, domain]) + size.to_bytes(4, "big") + message)
+
+
+def kt_record(function, custom, size, message, custom_size=None):
+    """One go of KT. `custom_size` is the length of `custom` where it is not given."""
+    inner = len(custom) if custom_size is None else custom_size
+    return record("K", bytes([function]) + size.to_bytes(4, "big") + inner.to_bytes(4, "big") + custom + message)
 
 
 def play(records):
@@ -48,7 +57,8 @@ def bytes_line(status, out, size):
 
 
 def dump_line(run):
-    numbers = (run.absorbed, run.squeezed, run.position, *run.lanes)
+    sponges = run.sponges()
+    numbers = [run.absorbed, run.squeezed, *(s.position for s in sponges), *(lane for s in sponges for lane in s.lanes)]
     return f"{run.phase:02x} " + " ".join(f"{v:016x}" for v in numbers)
 
 
@@ -84,7 +94,7 @@ class Calls:
 
     def fresh(self, function):
         self.function = function
-        self.book, self.run = Transcript(self.rate), Run(self.rate)
+        self.book, self.run = transcript.book_of(function), transcript.run_of(function)
         self.add(f"N {function}", record("N", bytes([function])), "fresh")
 
     def call(self, what, data, answers, size=None):
@@ -106,8 +116,13 @@ class Calls:
     def absorb(self, piece):
         self.call(f"A of {len(piece)} bytes", record("A", piece), self.asked("absorb", piece))
 
-    def finalize(self, domain):
-        self.call(f"F {domain:02x}", record("F", bytes([domain])), self.asked("finalize", domain))
+    def finalize(self, argument):
+        """With a domain byte, or with KT's customization string."""
+        if self.function in TURBOSHAKE:
+            what, payload = f"F {argument:02x}", bytes([argument])
+        else:
+            what, payload = f"F with C of {len(argument)} bytes", argument
+        self.call(what, record("F", payload), self.asked("finalize", argument))
 
     def squeeze(self, size):
         self.call(f"R of {size} bytes", record("R", n=size), self.asked("squeeze", size), size)
@@ -117,13 +132,22 @@ class Calls:
         what = f"T {function} {domain:02x} of {len(message)} bytes, {size} asked"
         self.call(what, one_go_record(function, domain, size, message), [answer], size)
 
+    def kt_one_go(self, function, message, custom, size):
+        answer = transcript.kt_one_go(RATES[function], message, custom, size)
+        what = f"K {function} of {len(message)} bytes with C of {len(custom)}, {size} asked"
+        self.call(what, kt_record(function, custom, size, message), [answer], size)
+
     def set(self, field, value):
         """Overwrites a field of the run in hand; the book has nothing to say of it from here on."""
         self.book = None
-        if field >= LANES:
-            self.run.lanes[field - LANES] = value
+        if field >= LEAF_LANES:
+            self.run.leaf.lanes[field - LEAF_LANES] = value
+        elif field >= LANES:
+            self.run.node.lanes[field - LANES] = value
+        elif field >= POSITION:
+            self.run.sponges()[field - POSITION].position = value
         else:
-            setattr(self.run, ("phase", "absorbed", "squeezed", "position")[field], value)
+            setattr(self.run, ("phase", "absorbed", "squeezed")[field], value)
         self.add(f"S {field} {value:x}", set_record(field, value), "set")
 
     def dump(self):
@@ -140,8 +164,9 @@ class Calls:
         """A fresh run, every field of which is written as the run in hand has it, is that run: its book goes on."""
         book, run = self.book, self.run
         self.fresh(self.function)
-        values = [run.phase, run.absorbed, run.squeezed, run.position]
-        fields = list(enumerate(values)) + [(LANES + i, v) for i, v in enumerate(run.lanes)]
+        fields = list(enumerate((run.phase, run.absorbed, run.squeezed)))
+        for sponge, position, lanes in zip(run.sponges(), (POSITION, LEAF_POSITION), (LANES, LEAF_LANES)):
+            fields += [(position, sponge.position), *((lanes + i, v) for i, v in enumerate(sponge.lanes))]
         for field, value in order(fields):
             self.set(field, value)
         self.book = book
@@ -164,3 +189,12 @@ class Calls:
         whats = dict((n, what) for n, what, _ in self.expected[: 2 * number + 2])
         since = max((n for n in range(number) if whats[n][0] == "N"), default=0)
         return "after " + "; ".join([whats[since], *(whats[n] for n in range(max(since + 1, number - 8), number))])
+
+
+class Held(unittest.TestCase):
+    """A test whose lists are held to what the program answers."""
+
+    def hold(self, calls):
+        faults = calls.faults()
+        if faults:
+            self.fail(f"seed {SEED}: " + "\n".join(faults))

@@ -1,4 +1,4 @@
-"""The program `replay` answers lists of calls as the transcript does, and overwritten runs by the same rules.
+"""The program `replay` answers lists of TurboSHAKE calls as the transcript does, and overwritten runs by the same rules.
 
 Needs target/bin/replay, which `rt check` and `rt ci` leave.
 """
@@ -6,10 +6,9 @@ import random
 import unittest
 
 import reference
-from replay import ABSORBED, LANES, MOST, PHASE, POSITION, SQUEEZED, Calls, one_go_record, play, record, set_record
-from transcript import ABSORBING, FINALIZED, RATES, Limits
+from replay import ABSORBED, LANES, MOST, PHASE, POSITION, SEED, SQUEEZED, Calls, Held
+from transcript import ABSORBING, FINALIZED, TURBOSHAKE, Limits, position_after
 
-SEED = 20
 CALLS = 30_000  # A, F, R and T together
 LIMIT = Limits.ABSORB_LIMIT
 BIG = (1 << 64) - 1
@@ -40,7 +39,7 @@ def bad_domain(source):
 
 def one_go(source, calls):
     function = source.randrange(2)
-    rate = RATES[function]
+    rate = TURBOSHAKE[function]
     message = source.randbytes(length(source, rate, 0))
     last = bad_domain(source) if source.randrange(5) == 0 else domain(source)
     calls.one_go(function, message, last, 0 if source.randrange(5) == 0 else length(source, rate, 0))
@@ -115,7 +114,7 @@ def overwrite(source, calls):
     calls.set(ABSORBED, total(source, rate))
     squeezed = 0 if calls.run.phase == ABSORBING and source.randrange(8) else total(source, rate)
     calls.set(SQUEEZED, squeezed)
-    right = calls.run.position_after(calls.run.absorbed if calls.run.phase == ABSORBING else squeezed)
+    right = position_after(rate, calls.run.absorbed if calls.run.phase == ABSORBING else squeezed)
     wrong = (right + 1, abs(right - 1), 0, rate, rate + 1, 200, BIG, source.getrandbits(64))
     calls.set(POSITION, right if source.randrange(5) else source.choice(wrong))
     for lane in source.sample(range(25), source.choice((0, 1, 25))):
@@ -126,7 +125,7 @@ def overwritten_call(source, calls):
     """A call on such a run: one that just reaches the limit, one that passes it, or any other."""
     run = calls.run
     left = LIMIT - (run.absorbed if run.phase == ABSORBING else run.squeezed)
-    size = length(source, calls.rate, run.position)
+    size = length(source, calls.rate, run.node.position)
     if 0 <= left < 1000 and source.randrange(2):
         size = left + source.choice((0, 0, 1, 1, 2, 600))
     kind = source.randrange(10)
@@ -151,12 +150,7 @@ def overwritten_list(source, calls):
     calls.dump()
 
 
-class Lists(unittest.TestCase):
-    def hold(self, calls):
-        faults = calls.faults()
-        if faults:
-            self.fail(f"seed {SEED}: " + "\n".join(faults))
-
+class Lists(Held):
     def test_random_lists(self):
         """30,000 calls from a fixed seed, each number that a call here can answer among them."""
         source, calls = random.Random(SEED), Calls()
@@ -172,7 +166,7 @@ class Lists(unittest.TestCase):
     def test_edges_of_the_blocks(self):
         """Every pair of a message and an output that end at, one before or one past a block, in one go and cut."""
         calls = Calls()
-        for function, rate in enumerate(RATES):
+        for function, rate in TURBOSHAKE.items():
             edges = (0, 1, rate - 1, rate, rate + 1, 2 * rate - 1, 2 * rate, 2 * rate + 1)
             for message, asked in ((reference.ptn(size), asked) for size in edges for asked in edges):
                 calls.one_go(function, message, 0x1F, asked)
@@ -189,18 +183,18 @@ class Lists(unittest.TestCase):
     def test_limits(self):
         """Totals exactly at the limit are taken, one more is refused, and the phase is asked before the total."""
         calls = Calls()
-        for function, rate in enumerate(RATES):
+        for function, rate in TURBOSHAKE.items():
             for left in (0, 1, rate - 1, rate, rate + 1, 500):
                 calls.fresh(function)
                 calls.set(ABSORBED, LIMIT - left)
-                calls.set(POSITION, calls.run.position_after(LIMIT - left))
+                calls.set(POSITION, position_after(rate, LIMIT - left))
                 for size in (left + 1, left, 1, 0, 5000):
                     calls.absorb(bytes(size))
                 calls.finalize(0x80)
                 calls.finalize(0x1F)
                 calls.absorb(b"a")
                 calls.set(SQUEEZED, LIMIT - left)
-                calls.set(POSITION, calls.run.position_after(LIMIT - left))
+                calls.set(POSITION, position_after(rate, LIMIT - left))
                 for size in (left + 1, left, 1, 0, 5000):
                     calls.squeeze(size)
         self.hold(calls)
@@ -220,12 +214,12 @@ class Lists(unittest.TestCase):
     def test_not_reached(self):
         """Phases that are none, totals past the limit, positions that are not the totals', a squeeze before the finalize."""
         calls = Calls()
-        for function, rate in enumerate(RATES):
+        for function, rate in TURBOSHAKE.items():
             calls.fresh(function)
             for phase in range(2, 256):
                 self.refused_by_5(calls, phase, 0, 0, 0)
             for over in (LIMIT + 1, LIMIT + 1 + rate, 1 << 63, BIG):
-                right = calls.run.position_after(over)
+                right = position_after(rate, over)
                 self.refused_by_5(calls, ABSORBING, over, 0, right)
                 self.refused_by_5(calls, FINALIZED, 0, over, right)
                 self.refused_by_5(calls, FINALIZED, over, 0, 0)
@@ -234,7 +228,7 @@ class Lists(unittest.TestCase):
                     self.refused_by_5(calls, ABSORBING, size, 0, position)
                     self.refused_by_5(calls, FINALIZED, 7, size, position)
             for squeezed in (1, 7, rate, LIMIT):
-                self.refused_by_5(calls, ABSORBING, squeezed, squeezed, calls.run.position_after(squeezed))
+                self.refused_by_5(calls, ABSORBING, squeezed, squeezed, position_after(rate, squeezed))
         self.hold(calls)
 
     def test_longest(self):
@@ -249,77 +243,6 @@ class Lists(unittest.TestCase):
         calls.one_go(1, reference.ptn(MOST - 6), 0x01, 32)
         calls.one_go(1, b"", 0x01, MOST)
         self.hold(calls)
-
-
-class Malformed(unittest.TestCase):
-    """A record that does not fit: the line `bad record`, and nothing of what follows."""
-
-    def refused(self, before, data):
-        """`before` is a list of records with their lines; nothing after `data` may be answered."""
-        records = b"".join(r for r, _ in before) + data
-        lines, status = play(records)
-        self.assertEqual(lines, [line for _, line in before] + ["bad record"], data[:40])
-        self.assertGreaterEqual(status, 0, "ended by a signal")
-
-    def refused_in_a_list(self, data):
-        """With a run in hand, and with records after it that would be answered."""
-        run = [(record("N", b"\0"), "fresh"), (record("A", b"abc"), "0")]
-        self.refused(run, data + 3 * record("A", b"abc") + record("N", b"\1"))
-
-    def test_no_record(self):
-        self.assertEqual(play(b""), ([], 0))
-
-    def test_cut_short(self):
-        whole = [record("N", b"\1"), record("A", b"ab"), record("F", b"\x1f"), record("R", n=3), set_record(PHASE, 0), record("D")]
-        whole += [one_go_record(0, 0x1F, 2, b"xyz"), record("A", bytes(MOST))]
-        run = [(record("N", b"\0"), "fresh")]
-        for data in whole:
-            for size in {*range(1, min(len(data), 20)), len(data) - 1}:
-                with self.subTest(op=data[:1], size=size):
-                    self.refused(run, data[:size])
-
-    def test_unknown_op(self):
-        for op in "\x00\n \xff09anftZ":
-            for n in (0, 1):
-                with self.subTest(op=op, n=n):
-                    self.refused_in_a_list(record(op, bytes(n)))
-
-    def test_too_long(self):
-        for n in (MOST + 1, 1 << 24, (1 << 32) - 1):
-            for op in "NAFSDT":
-                with self.subTest(op=op, n=n):
-                    self.refused_in_a_list(record(op, bytes(MOST + 1), n=n))
-            self.refused_in_a_list(record("R", n=n))
-
-    def test_inner_lengths(self):
-        wrong = {"N": (0, 2), "F": (0, 2, 3), "S": (0, 1, 8, 10), "D": (1, 9), "T": range(6)}
-        for op, sizes in wrong.items():
-            for size in sizes:
-                with self.subTest(op=op, size=size):
-                    self.refused_in_a_list(record(op, bytes(size)))
-        for size in (MOST + 1, 1 << 24, (1 << 32) - 1):
-            self.refused_in_a_list(one_go_record(0, 0x1F, size, b"abc"))
-            self.refused_in_a_list(one_go_record(0, 0x80, size, b"abc"))
-
-    def test_unknown_function(self):
-        self.refused_in_a_list(record("N", b"\xff"))
-        self.refused_in_a_list(one_go_record(2, 0x1F, 32, b"abc"))
-        self.refused_in_a_list(one_go_record(0xFF, 0x1F, 32, b"abc"))
-
-    def test_no_run(self):
-        one_go = (one_go_record(0, 0x1F, 0, b""), "7 ")
-        for data in (record("A", b"ab"), record("A"), record("F", b"\x1f"), record("R", n=3), set_record(PHASE, 0), record("D")):
-            with self.subTest(op=data[:1]):
-                self.refused([], data + record("N", b"\0"))
-                self.refused([one_go], data + record("N", b"\0"))
-
-    def test_fields(self):
-        """A phase is a byte; fields 4 to 63 and from 89 on are none of a TurboSHAKE run."""
-        for value in (256, 257, 1 << 32, BIG):
-            self.refused_in_a_list(set_record(PHASE, value))
-        for field in (*range(POSITION + 1, LANES), *range(LANES + 25, 256)):
-            with self.subTest(field=field):
-                self.refused_in_a_list(set_record(field, 0))
 
 
 if __name__ == "__main__":

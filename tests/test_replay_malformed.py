@@ -1,0 +1,114 @@
+"""A record that does not fit: the program `replay` writes the line `bad record`, and nothing of what follows.
+
+Needs target/bin/replay, which `rt check` and `rt ci` leave.
+"""
+import unittest
+
+from replay import LANES, LEAF_LANES, LEAF_POSITION, MOST, PHASE, POSITION, kt_record, one_go_record, play, record, set_record
+
+BIG = (1 << 64) - 1
+
+
+class Malformed(unittest.TestCase):
+    def refused(self, before, data):
+        """`before` is a list of records with their lines; nothing after `data` may be answered."""
+        records = b"".join(r for r, _ in before) + data
+        lines, status = play(records)
+        self.assertEqual(lines, [line for _, line in before] + ["bad record"], data[:40])
+        self.assertGreaterEqual(status, 0, "ended by a signal")
+
+    def refused_in_a_list(self, data, function=0):
+        """With a run in hand, and with records after it that would be answered."""
+        run = [(record("N", bytes([function])), "fresh"), (record("A", b"abc"), "0")]
+        self.refused(run, data + 3 * record("A", b"abc") + record("N", b"\1"))
+
+    def test_no_record(self):
+        self.assertEqual(play(b""), ([], 0))
+
+    def test_cut_short(self):
+        whole = [record("N", b"\1"), record("A", b"ab"), record("F", b"\x1f"), record("R", n=3), set_record(PHASE, 0), record("D")]
+        whole += [one_go_record(0, 0x1F, 2, b"xyz"), kt_record(2, b"abc", 2, b"xyz"), record("A", bytes(MOST))]
+        for function in (0, 2):
+            for data in whole:
+                for size in {*range(1, min(len(data), 20)), len(data) - 1}:
+                    with self.subTest(op=data[:1], size=size):
+                        self.refused([(record("N", bytes([function])), "fresh")], data[:size])
+
+    def test_unknown_op(self):
+        for op in "\x00\n \xff09anftkZ":
+            for n in (0, 1):
+                with self.subTest(op=op, n=n):
+                    self.refused_in_a_list(record(op, bytes(n)))
+
+    def test_too_long(self):
+        for n in (MOST + 1, 1 << 24, (1 << 32) - 1):
+            for op, function in (*((op, 0) for op in "NAFSDTK"), ("A", 2), ("F", 2), ("F", 3)):
+                with self.subTest(op=op, n=n, function=function):
+                    self.refused_in_a_list(record(op, bytes(MOST + 1), n=n), function)
+            self.refused_in_a_list(record("R", n=n))
+            self.refused_in_a_list(record("R", n=n), 2)
+
+    def test_inner_lengths(self):
+        wrong = {"N": (0, 2), "F": (0, 2, 3), "S": (0, 1, 8, 10), "D": (1, 9), "T": range(6)}
+        for op, sizes in wrong.items():
+            for size in sizes:
+                with self.subTest(op=op, size=size):
+                    self.refused_in_a_list(record(op, bytes(size)))
+        for size in (MOST + 1, 1 << 24, (1 << 32) - 1):
+            self.refused_in_a_list(one_go_record(0, 0x1F, size, b"abc"))
+            self.refused_in_a_list(one_go_record(0, 0x80, size, b"abc"))
+
+    def test_inner_lengths_of_kt(self):
+        """Too short for its numbers, an output longer than the buffer, a customization string longer than what follows it."""
+        for size in range(9):
+            self.refused_in_a_list(record("K", (b"\2" + bytes(8))[:size]), 2)
+        for function in (2, 3):
+            for size in (MOST + 1, 1 << 24, (1 << 32) - 1):
+                self.refused_in_a_list(kt_record(function, b"", size, b"abc"), 2)
+                self.refused_in_a_list(kt_record(function, bytes(65_536), size, b"abc"))
+            for custom_size in (4, 5, MOST - 8, MOST, MOST + 1, 1 << 24, (1 << 31) + 3, (1 << 32) - 1):
+                with self.subTest(function=function, custom_size=custom_size):
+                    self.refused_in_a_list(kt_record(function, b"", 32, b"abc", custom_size), function)
+
+    def test_unknown_function(self):
+        """4 to 255; and each of the two one-go calls with a function of the other."""
+        for function in range(4, 256):
+            with self.subTest(function=function):
+                self.refused_in_a_list(record("N", bytes([function])))
+        for function in (2, 3, 4, 0x80, 0xFF):
+            self.refused_in_a_list(one_go_record(function, 0x1F, 32, b"abc"))
+        for function in (0, 1, 4, 0x80, 0xFF):
+            self.refused_in_a_list(kt_record(function, b"", 32, b"abc"))
+
+    def test_no_run(self):
+        one_go = (one_go_record(0, 0x1F, 0, b""), "7 ")
+        kt = (kt_record(3, b"", 0, b""), "7 ")
+        for data in (record("A", b"ab"), record("A"), record("F", b"\x1f"), record("R", n=3), set_record(PHASE, 0), record("D")):
+            with self.subTest(op=data[:1]):
+                self.refused([], data + record("N", b"\0"))
+                self.refused([one_go, kt], data + record("N", b"\0"))
+
+    def test_fields(self):
+        """A phase is a byte; fields 4 to 63 and from 89 on are none of a TurboSHAKE run."""
+        for value in (256, 257, 1 << 32, BIG):
+            for function in range(4):
+                self.refused_in_a_list(set_record(PHASE, value), function)
+        for field in (*range(POSITION + 1, LANES), *range(LANES + 25, 256)):
+            with self.subTest(field=field):
+                self.refused_in_a_list(set_record(field, 0))
+
+    def test_fields_of_kt(self):
+        """5 to 63, 89 to 95 and from 121 on are none of a KT run."""
+        for field in (*range(LEAF_POSITION + 1, LANES), *range(LANES + 25, LEAF_LANES), *range(LEAF_LANES + 25, 256)):
+            with self.subTest(field=field):
+                self.refused_in_a_list(set_record(field, 0), 2 + field % 2)
+
+    def test_fields_after_another_function(self):
+        """The fields are those of the run in hand, whatever the one before had."""
+        leaf = [(record("N", b"\2"), "fresh"), (set_record(LEAF_POSITION, 7), "set"), (set_record(LEAF_LANES + 24, 7), "set")]
+        for field in (LEAF_POSITION, LEAF_LANES, LEAF_LANES + 24):
+            self.refused(leaf + [(record("N", b"\0"), "fresh")], set_record(field, 7) + record("N", b"\2"))
+
+
+if __name__ == "__main__":
+    unittest.main()
