@@ -1,9 +1,10 @@
 #!/usr/bin/env python3
 """What the programs over the library must write.
 
-  expected.py vectors     the draft's TurboSHAKE vectors as it prints them; nothing is worked out here
+  expected.py vectors     the draft's vectors as it prints them; nothing is worked out here
   expected.py edges       both sides of each edge of document 01, by the second program
 """
+import functools
 import sys
 
 import reference
@@ -11,11 +12,22 @@ import transcript
 import vectors
 
 BEFORE = b"\xa5"  # each byte of the program's output buffer before the calls
+CHUNK = reference.CHUNK
+CUSTOMS = (0, 1, 255, 256, 65_535, 65_536)  # the last is refused
 
 
 def vectors_output():
-    """A line for each vector: function, kind and length of the message, domain byte, length asked, the bytes that the draft prints."""
+    """A line for each vector: function, kind and length of the message, domain byte, length asked, the bytes that the draft prints.
+
+    The KT vectors follow in the draft's order, KT128's and then KT256's. In place of the domain byte they have the length of C, in decimal;
+    C is ptn. Those whose C is longer than 65,535 bytes have `status 4` in place of the bytes. Source document 003 adds none to these:
+    test_reference.py holds each of its vectors to be among them.
+    """
     lines = [f"{v.function} {v.kind} {v.size} {v.domain:02x} {v.length} {v.digest.hex()}" for v in vectors.turboshake()]
+    for v in vectors.kt():
+        status = transcript.custom_status(bytes(v.custom))
+        answer = f"status {status}" if status else v.digest.hex()
+        lines.append(f"{v.function} {v.kind} {v.size} {v.custom} {v.length} {answer}")
     return "\n".join(lines) + "\n"
 
 
@@ -23,24 +35,110 @@ def edges_of(rate):
     """(message length, domain byte, bytes asked) of each line, for one strength."""
     for size in (0, 1, rate - 2, rate - 1, rate, rate + 1, 2 * rate - 1, 2 * rate, 2 * rate + 1):
         yield size, 0x1F, 32
-    for asked in (1, rate - 1, rate, rate + 1, 2 * rate - 1, 2 * rate, 2 * rate + 1):
+    for asked in outputs_of(rate):
         for size in (0, rate):
             yield size, 0x1F, asked
     for domain in (0x01, 0x7F, 0x00, 0x80, 0xFF):
         yield 3, domain, 32
 
 
+def outputs_of(rate):
+    return 1, rate - 1, rate, rate + 1, 2 * rate - 1, 2 * rate, 2 * rate + 1
+
+
+def kt_sizes_of(rate):
+    """The message lengths that meet every customization string: around the first block's end and around the ends of three chunks."""
+    yield from (0, 1)
+    yield from range(rate - 3, rate + 2)
+    yield from range(CHUNK - 2, CHUNK + 3)
+    yield from range(2 * CHUNK - 2, 2 * CHUNK + 3)
+    yield from range(3 * CHUNK - 1, 3 * CHUNK + 2)
+
+
+# (length of M, length of C) of the lines that follow, by the rate. With C empty S is one byte longer than M; with C of 1 to 255 bytes
+# two bytes longer than M and C.
+KT_PAIRS = {
+    168: (
+        # document 01's four: one chunk, two, two, three
+        (8191, 0),
+        (8192, 0),
+        (8192, 8189),
+        (8192, 8190),
+        # a single node one byte short of a whole number of blocks, so that 07 and 80 share a byte: S of 167, 167 and 8,063 bytes
+        (166, 0),
+        (0, 165),
+        (8062, 0),
+        # a last leaf of 167, 167 and 335 bytes, and a second leaf of 167: 0B and 80 share a byte; then leaves of 168 and 169
+        (8358, 0),
+        (8192, 165),
+        (8526, 0),
+        (16_550, 0),
+        (8359, 0),
+        (8360, 0),
+        # a final node of 8,396 bytes, 164 more than whole blocks: 06 and 80 share the last lane, the nearest that a final node can come
+        (49_152, 0),
+    ),
+    136: (
+        (8191, 0),
+        (8192, 0),
+        (8192, 8189),
+        (8192, 8190),
+        # S of 135, 135 and 8,159 bytes
+        (134, 0),
+        (0, 133),
+        (8158, 0),
+        # a last leaf of 135, 135 and 271 bytes, and a second leaf of 135; then leaves of 136 and 137
+        (8326, 0),
+        (8192, 133),
+        (8462, 0),
+        (16_518, 0),
+        (8327, 0),
+        (8328, 0),
+        # a final node of 8,972 bytes, 132 more than whole blocks
+        (32_767, 65_535),
+    ),
+}
+
+
+def kt_edges_of(rate):
+    """(message length, length of C, bytes asked) of each KT line, for one strength."""
+    for size in kt_sizes_of(rate):
+        for custom in CUSTOMS:
+            yield size, custom, 32
+    for size, custom in KT_PAIRS[rate]:
+        yield size, custom, 32
+    for asked in outputs_of(rate):
+        yield CHUNK, 0, asked
+
+
+def digits_of(out, asked):
+    return (BEFORE * asked if out is None else out).hex()
+
+
+@functools.cache
 def edges_output():
-    """Two lines for each: in one go, and cut into pieces, which must make no difference.
+    """TurboSHAKE: two lines for each, in one go, and cut into pieces, which must make no difference.
 
     The message is ptn. The status of a cut one is that of the finalize; no squeeze can follow a refused one, so the buffer stays.
+
+    KT: one line for each, KT128's and then KT256's, in the order of kt_edges_of:
+
+        FUNCTION M C ASKED one STATUS BYTES cut STATUS BYTES
+
+    with one space between, lengths and statuses in decimal, bytes in lower-case hex. M is the first M bytes of ptn, C the first C bytes
+    of ptn. `one` is the one-go call; `cut` a run that absorbs M in pieces, is finalized with C and squeezed in pieces. Each has a buffer of
+    its own of ASKED bytes, all A5 before the calls, and prints it after them. A C of 65,536 bytes answers 4 and leaves it.
     """
     lines = []
     for function, rate in (("TurboSHAKE128", 168), ("TurboSHAKE256", 136)):
         for size, domain, asked in edges_of(rate):
             status, out = transcript.one_go(rate, reference.ptn(size), domain, asked)
-            digits = (BEFORE * asked if out is None else out).hex()
-            lines += [f"{function} {way} {size} {domain:02x} {asked} {status} {digits}" for way in ("one", "cut")]
+            lines += [f"{function} {way} {size} {domain:02x} {asked} {status} {digits_of(out, asked)}" for way in ("one", "cut")]
+    for function, rate in (("KT128", 168), ("KT256", 136)):
+        for size, custom, asked in kt_edges_of(rate):
+            status, out = transcript.kt_one_go(rate, reference.ptn(size), reference.ptn(custom), asked)
+            answer = f"{status} {digits_of(out, asked)}"
+            lines.append(f"{function} {size} {custom} {asked} one {answer} cut {answer}")
     return "\n".join(lines) + "\n"
 
 

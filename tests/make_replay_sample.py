@@ -12,6 +12,10 @@ LIMIT = 4_294_967_295
 DIGEST = reference.turboshake(168, b"abc", 0x1F, 37).hex()
 BLOCK = b"abc\x1f" + bytes(163) + b"\x80" + bytes(32)  # the whole state: abc, D and 80 in the block of 168 bytes
 CLOSED = reference.keccak_p(reference.state_of(BLOCK), 12)
+CHUNK = reference.CHUNK
+MESSAGE = reference.ptn(CHUNK + 1)
+CUSTOM = b"abc"
+KT_DIGEST = reference.kt128(MESSAGE, CUSTOM, 37).hex()
 
 
 def record(op, payload=b"", n=None):
@@ -24,6 +28,26 @@ def field(number, value):
 
 def one_go(function, domain, size, message):
     return record("T", bytes([function, domain]) + size.to_bytes(4, "big") + message)
+
+
+def kt_one_go(function, custom, size, message):
+    return record("K", bytes([function]) + size.to_bytes(4, "big") + len(custom).to_bytes(4, "big") + custom + message)
+
+
+def lanes_after(data):
+    """The lanes once these bytes are in, at the rate 168; the last block, a full one too, is not yet permuted."""
+    lanes = [0] * 25
+    for at in range(0, len(data), 168):
+        if at:
+            lanes = reference.keccak_p(lanes, 12)
+        lanes = [v ^ w for v, w in zip(lanes, reference.state_of(data[at : at + 168].ljust(200, b"\0")))]
+    return lanes
+
+
+def lanes_closed(node, domain):
+    """The lanes after the final node, whose last block has room for the domain byte before its last byte."""
+    padded = node + bytes([domain]) + bytes(-len(node) % 168 - 2) + b"\x80"
+    return reference.keccak_p(lanes_after(padded), 12)
 
 
 def run_line(phase, *numbers):
@@ -60,6 +84,35 @@ SAMPLE = [
     (record("A", b"a"), "2"),
     # no run that was reached has this position
     (field(3, 0), "set"),
+    (record("A", b""), "5"),
+    # KT128: a full first chunk stays open until the next byte comes, which ends it and opens the leaf
+    (record("N", b"\2"), "fresh"),
+    (record("D"), run_line(0, 0, 0, 0, 0, *[0] * 50)),
+    (record("A", MESSAGE[:100]), "0"),
+    (record("A", MESSAGE[100:CHUNK]), "0"),
+    (record("D"), run_line(0, CHUNK, 0, 128, 0, *lanes_after(MESSAGE[:CHUNK]), *[0] * 25)),
+    (record("A", MESSAGE[CHUNK:]), "0"),
+    (record("D"), run_line(0, CHUNK + 1, 0, 136, 1, *lanes_after(MESSAGE[:CHUNK] + b"\3" + bytes(7)), MESSAGE[CHUNK], *[0] * 24)),
+    (record("R", n=4), "3 a5a5a5a5"),
+    (record("F", bytes(65_536)), "4"),
+    (record("F", CUSTOM), "0"),
+    (record("F", CUSTOM), "3"),
+    (record("A", b"d"), "3"),
+    (record("R", n=32), "0 " + KT_DIGEST[:64]),
+    (record("R", n=5), "0 " + KT_DIGEST[64:]),
+    (record("D"), run_line(1, CHUNK + 1, 37, 37, 0, *lanes_closed(*reference.final_node(168, 32, reference.merged(MESSAGE, CUSTOM))), *[0] * 25)),
+    (kt_one_go(2, CUSTOM, 37, MESSAGE), "0 " + KT_DIGEST),
+    (kt_one_go(3, b"", 8, b""), "0 " + reference.kt256(b"", b"", 8).hex()),
+    (kt_one_go(3, b"", 0, b"abc"), "7 "),
+    # at the limit the chunk in hand is number 524,287, one byte short of its end; S goes past the limit with C, M does not
+    (record("N", b"\3"), "fresh"),
+    (field(1, LIMIT), "set"),
+    (field(3, (CHUNK + 8 + 524_286 * 64 - 1) % 136 + 1), "set"),
+    (field(4, (CHUNK - 1 - 1) % 136 + 1), "set"),
+    (record("A", b"a"), "2"),
+    (record("A", b""), "0"),
+    # no run that was reached has this position of the leaf
+    (field(4, 0), "set"),
     (record("A", b""), "5"),
     (record("Z"), "bad record"),
     # nothing is answered after that

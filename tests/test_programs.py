@@ -5,6 +5,7 @@ from pathlib import Path
 import expected
 import make_replay_sample
 import reference
+import transcript
 
 ROOT = Path(__file__).resolve().parent.parent
 
@@ -28,9 +29,40 @@ class Output(unittest.TestCase):
         self.assertEqual((crate / "stdout").read_text(), make_replay_sample.stdout())
 
     def test_vectors(self):
-        """The draft has 16 vectors of TurboSHAKE128 and 15 of TurboSHAKE256."""
-        names = [line.split()[0] for line in expected.vectors_output().splitlines()]
-        self.assertEqual(names, ["TurboSHAKE128"] * 16 + ["TurboSHAKE256"] * 15)
+        """The draft has 16 vectors of TurboSHAKE128 and 15 of TurboSHAKE256, and 18 of each KT, of which one is refused here."""
+        lines = expected.vectors_output().splitlines()
+        names = [line.split()[0] for line in lines]
+        self.assertEqual(names, ["TurboSHAKE128"] * 16 + ["TurboSHAKE256"] * 15 + ["KT128"] * 18 + ["KT256"] * 18)
+        refused = ["KT128 ff 7 68921 32 status 4", "KT256 ff 7 68921 64 status 4"]
+        self.assertEqual([line for line in lines if "status" in line], refused)
+
+
+class Nodes(unittest.TestCase):
+    """The pairs of expected.KT_PAIRS give the nodes that they are there for."""
+
+    def nodes(self, rate):
+        """For each pair: the number of chunks, the length of the last one, and the length of the final node."""
+        for size, custom in expected.KT_PAIRS[rate]:
+            s = reference.merged(reference.ptn(size), reference.ptn(custom))
+            parts = reference.chunks(s)
+            yield len(parts), len(parts[-1]), len(reference.final_node(rate, transcript.CHAINING[rate], s)[0])
+
+    def test_pairs(self):
+        for rate in transcript.CHAINING:
+            named, singles, leaves, others, final = (list(self.nodes(rate))[a:b] for a, b in ((0, 4), (4, 7), (7, 11), (11, 13), (13, 14)))
+            self.assertEqual([count for count, _, _ in named], [1, 2, 2, 3])
+            self.assertEqual([(count, last % rate) for count, last, _ in singles], [(1, rate - 1)] * 3)
+            self.assertEqual([(count, last % rate) for count, last, _ in leaves], [(2, rate - 1)] * 3 + [(3, rate - 1)])
+            self.assertEqual([(count, last) for count, last, _ in others], [(2, rate), (2, rate + 1)])
+            self.assertEqual([(count > 1, length % rate) for count, _, length in final], [(True, rate - 4)])
+
+    def test_no_final_node_is_one_byte_short(self):
+        """None of several chunks is one byte short of whole blocks: all lengths are multiples of 8 but that of the end, 4 to 6 bytes."""
+        most = (4_294_967_295 + 65_535 + 3 - 1) // reference.CHUNK
+        ends = {len(reference.length_encode(n)) + 2 for n in (1, 255, 256, 65_535, 65_536, most)}
+        self.assertEqual(ends, {4, 5, 6})
+        for rate, chaining in transcript.CHAINING.items():
+            self.assertEqual((rate % 8, chaining % 8, (reference.CHUNK + 8) % 8), (0, 0, 0))
 
 
 class ByHand(unittest.TestCase):
@@ -55,6 +87,29 @@ class ByHand(unittest.TestCase):
 
     def test_168_bytes_are_two_blocks(self):
         self.holds(168, reference.ptn(168), b"\x1f" + bytes(166) + b"\x80")
+
+    def holds_kt(self, size, custom, *blocks):
+        digest = self.digest(*blocks)
+        lines = {line for line in expected.edges_output().splitlines() if line.startswith(f"KT128 {size} {custom} 32 ")}
+        self.assertEqual(lines, {f"KT128 {size} {custom} 32 one 0 {digest} cut 0 {digest}"})
+
+    def test_166_bytes_of_kt_are_one_block(self):
+        """S ends with the 00 of an empty C; 07 XOR 80 is 87."""
+        self.holds_kt(166, 0, reference.ptn(166) + b"\x00\x87")
+
+    def test_8191_bytes_of_kt_are_one_chunk(self):
+        """8,191 bytes and 00 are 48 blocks and 128 bytes."""
+        s = reference.ptn(8191) + b"\x00"
+        blocks = [s[at : at + 168] for at in range(0, 48 * 168, 168)]
+        self.holds_kt(8191, 0, *blocks, s[48 * 168 :] + b"\x07" + bytes(38) + b"\x80")
+
+    def test_8192_bytes_of_kt_are_two_chunks(self):
+        """The leaf is 00 alone; the final node is 49 blocks and 4 bytes: length_encode(1) and FF FF."""
+        value = bytes.fromhex(self.digest(b"\x00\x0b" + bytes(165) + b"\x80"))
+        node = reference.ptn(8192) + b"\x03\0\0\0\0\0\0\0" + value
+        blocks = [node[at : at + 168] for at in range(0, len(node), 168)]
+        self.assertEqual(len(node), 49 * 168)
+        self.holds_kt(8192, 0, *blocks, b"\x01\x01\xff\xff\x06" + bytes(162) + b"\x80")
 
 
 if __name__ == "__main__":
