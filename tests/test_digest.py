@@ -1,0 +1,178 @@
+"""The program `digest` writes KT128 of its standard input, or why not; it is really run, on pipes, files and inputs that cannot be read.
+
+Needs target/bin/digest, which `rt check` and `rt ci` leave.
+"""
+import fcntl
+import os
+import subprocess
+import tempfile
+import threading
+import time
+import tty
+import unittest
+from pathlib import Path
+
+import reference
+
+PROGRAM = Path(__file__).resolve().parent.parent / "target/bin/digest"
+LIMIT = 4_294_967_295
+SECONDS = 300  # for one run of the program; the two longest take seconds
+
+
+def line_of(message):
+    return reference.kt128(message, b"", 32).hex() + "\n"
+
+
+def longest_line():
+    """What is due for ptn(LIMIT): its chunks begin at 251 places of the pattern, so there are no more chaining values to work out."""
+    pattern = reference.ptn(reference.CHUNK + 251)
+    starts = [reference.CHUNK * i % 251 for i in range((LIMIT + 1) // reference.CHUNK)]
+    values = {start: reference.chaining_value(168, 32, pattern[start:][: reference.CHUNK]) for start in set(starts[1:])}
+    # S is the message and 00, so its last chunk is full
+    last = reference.chaining_value(168, 32, pattern[starts[-1] :][: reference.CHUNK - 1] + b"\0")
+    node = bytearray(pattern[: reference.CHUNK] + b"\x03" + bytes(7))
+    for start in starts[1:-1]:
+        node += values[start]
+    node += last + reference.length_encode(len(starts) - 1) + b"\xff\xff"
+    return reference.turboshake(168, node, 0x06, 32).hex() + "\n"
+
+
+def write_all(file, data):
+    while data:
+        data = data[os.write(file, data) :]
+
+
+def pattern_to(size):
+    """Writes ptn(size) into a pipe, in large pieces."""
+
+    def feed(pipe):
+        fcntl.fcntl(pipe, fcntl.F_SETPIPE_SZ, 1 << 20)
+        pattern = memoryview(reference.ptn(251 * 4096))
+        left = size
+        while left:
+            piece = pattern[:left]
+            left -= len(piece)
+            write_all(pipe, piece)
+
+    return feed
+
+
+def pieces_to(pieces, pause):
+    """Writes each piece once the program had time to read the one before, so that its reads give less than they could."""
+
+    def feed(pipe):
+        for piece in pieces:
+            write_all(pipe, piece)
+            time.sleep(pause)
+
+    return feed
+
+
+class Digest(unittest.TestCase):
+    def output(self, process):
+        """What the program wrote, once it has ended."""
+        stop = threading.Timer(SECONDS, process.kill)
+        stop.start()
+        try:
+            out, errors = process.stdout.read(), process.stderr.read()
+            process.wait()
+        finally:
+            stop.cancel()
+            process.stdout.close()
+            process.stderr.close()
+        self.assertEqual(errors, b"")
+        self.assertGreaterEqual(process.returncode, 0, "ended by a signal")
+        return out.decode("latin-1")
+
+    def started(self, stdin, command=(str(PROGRAM),)):
+        return subprocess.Popen(command, stdin=stdin, stdout=subprocess.PIPE, stderr=subprocess.PIPE)
+
+    def from_pipe(self, feed):
+        """The program may stop reading once it knows its answer."""
+        reading, writing = os.pipe()
+        process = self.started(reading)
+        os.close(reading)
+
+        def write():
+            try:
+                feed(writing)
+            except BrokenPipeError:
+                pass
+            finally:
+                os.close(writing)
+
+        writer = threading.Thread(target=write)
+        writer.start()
+        out = self.output(process)
+        writer.join()
+        return out
+
+    def test_empty(self):
+        self.assertEqual(self.from_pipe(lambda pipe: None), line_of(b""))
+        with open(os.devnull, "rb") as nothing:
+            self.assertEqual(self.output(self.started(nothing)), line_of(b""))
+
+    def test_scope(self):
+        """Document 01 prints this line."""
+        line = "cb552e2ec77d9910701d578b457ddf772c12e322e4ee7fe417f92c758f0d59d0\n"
+        self.assertEqual(self.from_pipe(pattern_to(17**3)), line)
+        with tempfile.TemporaryFile() as file:
+            file.write(reference.ptn(17**3))
+            file.seek(0)
+            self.assertEqual(self.output(self.started(file)), line)
+
+    def test_around_a_chunk(self):
+        for size in (1, 8190, 8191, 8192, 8193, 16_383, 16_384, 16_385, 100_000):
+            with self.subTest(size=size):
+                self.assertEqual(self.from_pipe(pattern_to(size)), line_of(reference.ptn(size)))
+
+    def test_odd_pieces(self):
+        """Reads that give less than they could, and ends of pieces around the ends of chunks."""
+        sizes = (1, 7, 8191, 8192, 8193, 1, 1, 8190, 2, 5000, 3192, 1, 16_384, 65_535, 65_536, 3, 167, 168, 169)
+        message = reference.ptn(sum(sizes))
+        ends = [sum(sizes[: i + 1]) for i in range(len(sizes))]
+        pieces = [message[end - size : end] for size, end in zip(sizes, ends)]
+        self.assertEqual(b"".join(pieces), message)
+        for pause in (0.0, 0.01):
+            self.assertEqual(self.from_pipe(pieces_to(pieces, pause)), line_of(message))
+
+    def test_byte_by_byte(self):
+        message = reference.ptn(300)
+        self.assertEqual(self.from_pipe(pieces_to([message[i : i + 1] for i in range(300)], 0.001)), line_of(message))
+
+    def test_longest(self):
+        """4,294,967,295 bytes are taken."""
+        self.assertEqual(self.from_pipe(pattern_to(LIMIT)), longest_line())
+
+    def test_too_long(self):
+        """One byte more is not."""
+        self.assertEqual(self.from_pipe(pattern_to(LIMIT + 1)), "too long\n")
+
+    def test_no_read(self):
+        """A directory, a file that is open for writing only, and no standard input at all."""
+        folder = os.open("/", os.O_RDONLY | os.O_DIRECTORY)
+        self.assertEqual(self.output(self.started(folder)), "read failed\n")
+        os.close(folder)
+        with tempfile.NamedTemporaryFile() as file:
+            unreadable = os.open(file.name, os.O_WRONLY)
+            self.assertEqual(self.output(self.started(unreadable)), "read failed\n")
+            os.close(unreadable)
+        closed = self.started(subprocess.DEVNULL, ("sh", "-c", 'exec "$0" <&-', str(PROGRAM)))
+        self.assertEqual(self.output(closed), "read failed\n")
+
+    def test_read_fails_later(self):
+        """The master of a terminal gives what was written to the other end, and an error once that end is closed."""
+        for size in (1, 8192, 100_000):
+            with self.subTest(size=size):
+                master, slave = os.openpty()
+                tty.setraw(slave)
+                process = self.started(master)
+                os.close(master)
+                write_all(slave, reference.ptn(size))
+                time.sleep(0.1)
+                os.close(slave)
+                self.assertEqual(self.output(process), "read failed\n")
+
+
+if __name__ == "__main__":
+    unittest.main()
