@@ -17,7 +17,6 @@ BIG = (1 << 64) - 1
 STREAMS = [random.Random(SEED + i).randbytes(80_000) for i in range(3)]
 CUSTOM = random.Random(SEED + 3).randbytes(65_536)
 LONGEST = 45_000  # of the messages of random lists: six chunks
-CUSTOMS = (0, 1, 255, 256, 65_535, 65_536)
 
 
 def near(total, unit):
@@ -133,12 +132,23 @@ def steps_list(source, calls):
     calls.squeeze(32)
 
 
+def turboshake_list(source, calls):
+    """A short list of the other functions: the fields of a run are those of its function."""
+    calls.fresh(source.choice((0, 1)))
+    calls.absorb(STREAMS[0][: source.randrange(400)])
+    calls.dump()
+    calls.finalize(0x1F)
+    calls.squeeze(40)
+    calls.dump()
+
+
 def total(source, rate):
     """A number of bytes absorbed or squeezed: around a chunk's or a block's end, around the limit, seldom one past it."""
     chunk = CHUNK * source.choice((1, 2, 3, source.randrange(1, 524_288)))
     block = rate * source.randrange(1, 5)
     some = source.choice((0, 1, source.randrange(700)))
-    return source.choice((0, some, chunk - 1, chunk, chunk + 1, chunk + some, block, chunk + block, LIMIT, LIMIT - some, LIMIT + 1 + some, BIG - some))
+    inside = (0, some, chunk - 1, chunk, chunk + 1, chunk + some, block, chunk + block, LIMIT, LIMIT - some)
+    return source.choice((*inside, LIMIT + 1 + some, BIG - some))
 
 
 def overwrite(source, calls):
@@ -190,8 +200,8 @@ class Lists(Held):
         """Calls from a fixed seed, each number that a call here can answer among them."""
         source, calls = random.Random(SEED), Calls()
         while calls.answers.total() < CALLS:
-            kind = source.choices((reached_list, overwritten_list, steps_list, one_go), (20, 30, 3, 10))[0]
-            kind(source, calls)
+            kinds = (reached_list, overwritten_list, steps_list, turboshake_list, one_go)
+            source.choices(kinds, (20, 30, 3, 2, 10))[0](source, calls)
         possible = {"A": (0, 2, 3, 5), "F": (0, 3, 4, 5), "R": (0, 3, 5, 6), "K": (0, 4, 7)}
         for op, statuses in possible.items():
             for status in statuses:
@@ -202,8 +212,9 @@ class Lists(Held):
         """Every pair of a message around a chunk's end and a customization string of document 01, in one go and cut."""
         calls = Calls()
         sizes = (0, 1, CHUNK - 2, CHUNK - 1, CHUNK, CHUNK + 1, 2 * CHUNK - 1, 2 * CHUNK, 2 * CHUNK + 1)
+        customs = (0, 1, 255, 256, 8189, 8190, 65_536)
         for function in KT:
-            for message, last in ((reference.ptn(size), reference.ptn(custom)) for size in sizes for custom in (*CUSTOMS[:4], 8189, 8190, CUSTOMS[5])):
+            for message, last in ((reference.ptn(size), reference.ptn(custom)) for size in sizes for custom in customs):
                 calls.kt_one_go(function, message, last, 40)
                 calls.fresh(function)
                 for part in (message[: len(message) // 3], b"", message[len(message) // 3 :]):
@@ -276,7 +287,8 @@ class Lists(Held):
             calls = Calls()
             calls.fresh(function)
             sizes = (0, 1, rate, rate + 1, CHUNK - 1, CHUNK, CHUNK + 1, CHUNK + rate, 2 * CHUNK, 2 * CHUNK + 1, 40 * CHUNK + 7, LIMIT)
-            for phase, absorbed, squeezed in (*((ABSORBING, n, 0) for n in sizes), (FINALIZED, 9, 0), (FINALIZED, 9000, rate), (FINALIZED, 9000, LIMIT)):
+            totals = [(ABSORBING, n, 0) for n in sizes] + [(FINALIZED, 9, 0), (FINALIZED, 9000, rate), (FINALIZED, 9000, LIMIT)]
+            for phase, absorbed, squeezed in totals:
                 for field, value in enumerate((phase, absorbed, squeezed)):
                     calls.set(field, value)
                 node, leaf = calls.run.positions_due()
