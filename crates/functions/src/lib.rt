@@ -1,5 +1,7 @@
 // TurboSHAKE of either strength, for programs that choose the function while they run. It decides nothing: each call is the
-// strength's own.
+// strength's own. `kt` does the same for KT.
+pub mod kt;
+
 ghost use mathlib.Core.Path.{_≡_};
 ghost use lib.ListN.{length};
 ghost use Rattle.sponge.specs.Transcript.{Call};

@@ -1,0 +1,58 @@
+use mathlib.Core.Path.{ap, sym, _∙_}
+use Rattle.sponge.specs.Transcript.{Call.finalize}
+use Rattle.kangarootwelve.specs.declared.Answer128.{Answer128}
+use Rattle.kangarootwelve.specs.declared.Answer256.{Answer256}
+use Rattle.functions.specs.declared.kt.KtFunction.{KtFunction}
+use Rattle.functions.specs.Kt.{answerIn}
+use borrow.Author.Needs.{needs}
+use Rattle.functions.proofs.kt.finalize.Statement.{statement}
+use Rattle.functions.proofs.kt.finalize.Tie as tie
+use Rattle.functions.proofs.kt.finalize.Reads as reads
+use Rattle.functions.proofs.kt.finalize.Lts as lts
+use Rattle.functions.proofs.kt.answer_of_128.Reads as answer-of-128-reads
+use Rattle.functions.proofs.kt.answer_of_256.Reads as answer-of-256-reads
+use Rattle.kangarootwelve.proofs.Kt128.finalize.Reads as Kt128-finalize-reads
+use Rattle.kangarootwelve.proofs.Kt256.finalize.Reads as Kt256-finalize-reads
+
+enum-told : tie.Need-enum-told
+enum-told c = search needs
+
+finalize-requires : tie.Need-finalize-requires
+finalize-requires c κs = search needs
+
+answer-of-128-requires : tie.Need-answer-of-128-requires
+answer-of-128-requires c κs = search needs
+
+enum-told-2 : tie.Need-enum-told-2
+enum-told-2 c = search needs
+
+finalize-requires-2 : tie.Need-finalize-requires-2
+finalize-requires-2 c κs = search needs
+
+answer-of-256-requires : tie.Need-answer-of-256-requires
+answer-of-256-requires c κs = search needs
+
+returns : tie.Need-returns
+returns c =
+    let a = c .before .before .before .before .before .args in
+    c .answer-of-128 .ensures ∙ ap (λ (x : Answer128). record { run = x .hasher .run; status = x .status }) (c .before .finalize .ensures)
+    ∙ sym (ap (λ (x : KtFunction). answerIn x (a .run) (finalize (a .customization .now))) (c .before .before .enum-told .given .1))
+
+returns-2 : tie.Need-returns-2
+returns-2 c =
+    let a = c .before .before .before .before .before .args in
+    c .answer-of-256 .ensures ∙ ap (λ (x : Answer256). record { run = x .hasher .run; status = x .status }) (c .before .finalize2 .ensures)
+    ∙ sym (ap (λ (x : KtFunction). answerIn x (a .run) (finalize (a .customization .now))) (c .before .before .enum-told2 .given .1))
+
+pub finalize-spec : {M : Type 1} → statement M
+finalize-spec =
+    tie.close
+    (tie.spec
+    enum-told
+    finalize-requires
+    answer-of-128-requires
+    enum-told-2
+    finalize-requires-2
+    answer-of-256-requires
+    returns
+    returns-2)
