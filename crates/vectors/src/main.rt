@@ -1,6 +1,8 @@
-// Runs the TurboSHAKE vectors of draft-irtf-cfrg-kangarootwelve-16, each message absorbed and each output squeezed in pieces.
-// Writes a line for each: the function, the message's kind and length, the domain byte, the bytes asked, and the bytes that
-// the draft prints, or the status of the call that was refused.
+// Runs the vectors of draft-irtf-cfrg-kangarootwelve-16, each message absorbed and each output squeezed in pieces. Writes a line
+// for each: the function, the message's kind and length, the domain byte (KT: the customization string's length), the bytes
+// asked, and the bytes that the draft prints, or the status of the call that was refused.
+mod kt;
+
 ghost use mathlib.Core.Path.{_≡_};
 ghost use Prim.Native.Nat.{_≤_, min};
 ghost use lib.ListN.{length};
@@ -140,11 +142,11 @@ fn write_bytes(bytes: &[u8]) -> bool {
     true
 }
 
-// Of a long output the draft prints the last 32 bytes.
-fn printed(asked: usize) -> usize
+// The first byte that the draft prints: of a long output not the first 10,000.
+fn first_printed(asked: usize) -> usize
     ensures { λ r. ⌜ r ≤ asked ⌝ }
 {
-    if 64 < asked { 32 } else { asked }
+    if 10000 < asked { 10000 } else { 0 }
 }
 
 fn write_answer(status: u8, out: &[u8]) -> bool {
@@ -152,7 +154,7 @@ fn write_answer(status: u8, out: &[u8]) -> bool {
         return io::write_all(STDOUT_FILENO, b"status ")
             && io::print_decimal(STDOUT_FILENO, status as u64);
     }
-    let start = out.len() - printed(out.len());
+    let start = first_printed(out.len());
     write_bytes(&out[start..])
 }
 
@@ -226,7 +228,10 @@ fn write_vectors(function: Function, asked: usize) -> bool
 }
 
 fn main() {
-    if write_pattern(Function::TurboShake128, 0, 32) && write_vectors(Function::TurboShake128, 32) {
-        write_vectors(Function::TurboShake256, 64);
+    if write_pattern(Function::TurboShake128, 0, 32)
+        && write_vectors(Function::TurboShake128, 32)
+        && write_vectors(Function::TurboShake256, 64)
+    {
+        kt::write_vectors();
     }
 }
