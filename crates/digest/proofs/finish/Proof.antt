@@ -1,0 +1,41 @@
+-- `digest::finish` meets its contract: the two calls, one after the other.
+-- Assumes nothing.
+use mathlib.Core.Path.{_≡_, ap, _∙_}
+use lib.ListN.{length}
+use Rattle.sponge.specs.Transcript.{Call.squeeze}
+use Rattle.kangarootwelve.specs.Model.{answerOf, outputOf}
+use Rattle.kangarootwelve.specs.declared.Run.{Run}
+use Rattle.kangarootwelve.specs.declared.Answer128.{Answer128}
+use Rattle.digest.specs.Digest.{finalizedOf}
+use borrow.Author.Needs.{needs}
+use Rattle.digest.proofs.finish.Statement.{statement}
+use Rattle.digest.proofs.finish.Tie as tie
+use Rattle.digest.proofs.finish.Reads as reads
+use Rattle.digest.proofs.finish.Lts as lts
+use Rattle.kangarootwelve.proofs.Kt128.finalize.Reads as finalize-reads
+use Rattle.kangarootwelve.proofs.Kt128.squeeze.Reads as squeeze-reads
+
+slice-aggregate-finalize : tie.Need-slice-aggregate-finalize
+slice-aggregate-finalize c = search needs
+
+finalize-requires : tie.Need-finalize-requires
+finalize-requires c κs = search needs
+
+squeeze-requires : tie.Need-squeeze-requires
+squeeze-requires c κs = search needs
+
+same-length : tie.Need-same-length
+same-length c = search needs
+
+returns : tie.Need-returns
+returns c =
+    let q = c .before .before .squeeze in
+    let f = c .before .before .before .before .before .finalize in
+    let a = c .before .before .before .before .before .before .before .before .args in
+    let e : f .result .hasher .run ≡ finalizedOf (a .hasher .run) = ap (λ (x : Answer128). x .hasher .run) (f .ensures) in (
+      ap (λ (x : Answer128). x .status) (q .ensures .0) ∙ ap (λ (r : Run). answerOf 168 32 r (squeeze (length (a .out .now))) .status) e,
+      q .ensures .1 ∙ ap (λ (r : Run). outputOf 168 32 r (a .out .now)) e,
+    )
+
+pub finish-spec : {M : Type 1} → statement M
+finish-spec = tie.close (tie.spec slice-aggregate-finalize finalize-requires squeeze-requires same-length returns)

@@ -1,0 +1,102 @@
+// Reads standard input in pieces and writes KT128 of it, with an empty customization string: 32 bytes in hex and a line end. The line
+// is `too long` where an absorb answers that, and `read failed` where a read fails before.
+ghost use mathlib.Core.Path.{_≡_};
+ghost use Rattle.digest.specs.Digest.{statusOf, digestOf};
+use kangarootwelve::Answer128;
+use kangarootwelve::Kt128;
+use libc::STDIN_FILENO;
+use libc::STDOUT_FILENO;
+use sponge::status::DONE;
+use sponge::status::INPUT_TOO_LONG;
+
+// What the last absorb answered, and the last read: the number of bytes, 0 at the input's end, or a negative number.
+struct Absorbed {
+    answer: Answer128,
+    got: isize,
+}
+
+// Nothing is read or absorbed yet.
+fn begin() -> Absorbed {
+    let hasher = Kt128::fresh();
+    let answer = Answer128 {
+        hasher,
+        status: DONE,
+    };
+    Absorbed { answer, got: 1 }
+}
+
+// Reads once, and absorbs what came: nothing where the read came to the end or failed.
+fn absorb_some(absorbed: Absorbed, buffer: &mut [u8]) -> Absorbed {
+    let last = absorbed.answer;
+    let hasher = last.hasher;
+    let got = libc::read(STDIN_FILENO, buffer);
+    let n = io::count(got, buffer);
+    let answer = hasher.absorb(&buffer[..n]);
+    Absorbed { answer, got }
+}
+
+// Whether to read again after a read that answered this. A read that a signal interrupted is asked again.
+fn is_open(got: isize) -> bool {
+    0 < got || got < 0 && os::errno() == libc::EINTR
+}
+
+// A proved loop has to end, and nothing says that the input does: the turns are counted down from a number that no run uses up.
+fn absorb_input(buffer: &mut [u8]) -> Absorbed {
+    let mut absorbed = begin();
+    let mut turns = u64::MAX;
+    while 0 < turns && is_open(absorbed.got) && absorbed.answer.status == DONE {
+        absorbed = absorb_some(absorbed, buffer);
+        turns -= 1;
+    }
+    absorbed
+}
+
+// Ends the message, and squeezes as many bytes as `out` holds.
+fn finish(hasher: Kt128, out: &mut [u8]) -> u8
+    ensures { λ r. ⌜ r ≡ statusOf (hasher .run) (now (out .entry)) ⌝ }
+    ensures { λ r. ⌜ now (out .exit) ≡ digestOf (hasher .run) (now (out .entry)) ⌝ }
+{
+    let customization = [0u8; 0];
+    let finalized = hasher.finalize(&customization);
+    let last = finalized.hasher;
+    let squeezed = last.squeeze(out);
+    squeezed.status
+}
+
+fn write_byte(byte: u8) -> bool {
+    io::print_hex(STDOUT_FILENO, byte as u64, 2)
+}
+
+fn write_bytes(bytes: &[u8]) -> bool {
+    let mut i: usize = 0;
+    while i < bytes.len() {
+        if !write_byte(bytes[i]) {
+            return false;
+        }
+        i += 1;
+    }
+    true
+}
+
+fn write_digest(hasher: Kt128) -> bool {
+    let mut out = [0u8; 32];
+    finish(hasher, &mut out) == DONE && write_bytes(&out) && io::write_all(STDOUT_FILENO, b"\n")
+}
+
+fn write_line(absorbed: Absorbed) -> bool {
+    let answer = absorbed.answer;
+    if answer.status == INPUT_TOO_LONG {
+        return io::write_all(STDOUT_FILENO, b"too long\n");
+    }
+    if absorbed.got < 0 {
+        return io::write_all(STDOUT_FILENO, b"read failed\n");
+    }
+    let hasher = answer.hasher;
+    write_digest(hasher)
+}
+
+fn main() {
+    let mut buffer = io::large_buffer();
+    let absorbed = absorb_input(&mut buffer);
+    write_line(absorbed);
+}
