@@ -1,7 +1,9 @@
 // Runs TurboSHAKE with messages and outputs that end around the ends of the first two blocks, and with domain bytes on both
 // sides of those that are taken, in one go and cut into small pieces. Writes a line for each: the function, `one` or `cut`, the
 // message's length, the domain byte, the bytes asked, the status and the output buffer. Messages are the draft's test pattern
-// ptn; the buffer holds A5 in every byte before the calls.
+// ptn; the buffer holds A5 in every byte before the calls. Then the same for KT.
+mod kt;
+
 ghost use mathlib.Core.Path.{_≡_};
 ghost use Prim.Native.Nat.{_≤_, min};
 ghost use lib.ListN.{length};
@@ -129,10 +131,7 @@ fn write_asked(length: usize, domain: u8, asked: usize) -> bool {
 }
 
 fn write_answer(status: u8, out: &[u8]) -> bool {
-    write_number(status as usize)
-        && io::write_all(STDOUT_FILENO, b" ")
-        && write_bytes(out)
-        && io::write_all(STDOUT_FILENO, b"\n")
+    write_number(status as usize) && io::write_all(STDOUT_FILENO, b" ") && write_bytes(out)
 }
 
 fn status_of(function: Function, is_cut: bool, message: &[u8], domain: u8, out: &mut [u8]) -> u8 {
@@ -153,6 +152,7 @@ fn write_line(function: Function, is_cut: bool, message: &[u8], domain: u8, aske
         && write_way(is_cut)
         && write_asked(message.len(), domain, asked)
         && write_answer(status, out)
+        && io::write_all(STDOUT_FILENO, b"\n")
 }
 
 fn write_both(function: Function, message: &[u8], domain: u8, asked: usize) -> bool
@@ -259,7 +259,9 @@ fn write_edges(function: Function, buffer: &[u8]) -> bool
 fn main() {
     let mut buffer = [0u8; 337];
     fill(&mut buffer);
-    if write_edges(Function::TurboShake128, &buffer) {
-        write_edges(Function::TurboShake256, &buffer);
+    if write_edges(Function::TurboShake128, &buffer)
+        && write_edges(Function::TurboShake256, &buffer)
+    {
+        kt::write_edges();
     }
 }
