@@ -46,14 +46,16 @@ def outputs_of(rate):
     return 1, rate - 1, rate, rate + 1, 2 * rate - 1, 2 * rate, 2 * rate + 1
 
 
-def kt_sizes_of(rate):
-    """The message lengths that meet every customization string: around the first block's end and around the ends of three chunks."""
-    yield from (0, 1)
-    yield from range(rate - 3, rate + 2)
-    yield from range(CHUNK - 2, CHUNK + 3)
-    yield from range(2 * CHUNK - 2, 2 * CHUNK + 3)
-    yield from range(3 * CHUNK - 1, 3 * CHUNK + 2)
-
+# The message lengths that meet every customization string, for both strengths: around the first block's end of either, and around the
+# ends of three chunks.
+KT_SIZES = (
+    *(0, 1),
+    *range(133, 138),
+    *range(165, 170),
+    *range(CHUNK - 2, CHUNK + 3),
+    *range(2 * CHUNK - 2, 2 * CHUNK + 3),
+    *range(3 * CHUNK - 1, 3 * CHUNK + 2),
+)
 
 # (length of M, length of C) of the lines that follow, by the rate. With C empty S is one byte longer than M; with C of 1 to 255 bytes
 # two bytes longer than M and C.
@@ -102,7 +104,7 @@ KT_PAIRS = {
 
 def kt_edges_of(rate):
     """(message length, length of C, bytes asked) of each KT line, for one strength."""
-    for size in kt_sizes_of(rate):
+    for size in KT_SIZES:
         for custom in CUSTOMS:
             yield size, custom, 32
     for size, custom in KT_PAIRS[rate]:

@@ -246,12 +246,12 @@ class KtRun(Run):
             taken += len(part)
 
     def close_chunk(self, number):
-        """The leaf is fresh after each leaf's end. The end of chunk 0 does not look at it."""
+        """The leaf is fresh after each chunk's end, chunk 0's too, which looks at nothing of it."""
         if number == 0:
             self.node.absorb(FIRST_CHUNK_END)
-            return
-        self.leaf.pad(INTERMEDIATE_NODE)
-        self.node.absorb(self.leaf.squeeze(self.chaining))
+        else:
+            self.leaf.pad(INTERMEDIATE_NODE)
+            self.node.absorb(self.leaf.squeeze(self.chaining))
         self.leaf = self.SPONGE(self.rate)
 
     def close(self, custom):
