@@ -1,15 +1,20 @@
 // The functions by their numbers.
 use functions::Function;
+use functions::kt::KtFunction;
 
-pub enum Asked {
-    Known(Function),
-    Unknown,
+// The function that a number names, or that the run in hand has; or none.
+pub enum Chosen {
+    TurboShake(Function),
+    Kt(KtFunction),
+    Nothing,
 }
 
-pub fn function_of(number: u8) -> Asked {
+pub fn function_of(number: u8) -> Chosen {
     match number {
-        0 => Asked::Known(Function::TurboShake128),
-        1 => Asked::Known(Function::TurboShake256),
-        _ => Asked::Unknown,
+        0 => Chosen::TurboShake(Function::TurboShake128),
+        1 => Chosen::TurboShake(Function::TurboShake256),
+        2 => Chosen::Kt(KtFunction::Kt128),
+        3 => Chosen::Kt(KtFunction::Kt256),
+        _ => Chosen::Nothing,
     }
 }

@@ -1,10 +1,10 @@
 // The lines that are written, each put together in a text as long as the longest.
 //
-// The line of a run is 479 bytes: two digits, 28 numbers of a space and 16 digits, and a line end.
+// The line of a run is two digits, numbers of a space and 16 digits each, and a line end: 28 numbers and 479 bytes, or of KT 54
+// numbers and 921 bytes.
 ghost use Prim.Native.Nat.{_+_, _*_, _<_, _≤_};
 ghost use lib.ListN.{length};
 use libc::STDOUT_FILENO;
-use turboshake::Run;
 
 fn digit(d: u8) -> u8
     requires { ⌜ d < 16 ⌝ }
@@ -40,7 +40,7 @@ fn put_bytes(text: &mut [u8], at: usize, bytes: &[u8])
 
 // Puts number k of a run's line.
 fn put_number(text: &mut [u8], k: usize, v: u64)
-    requires { ⌜ (k < 28) × (479 ≤ length (now text)) ⌝ }
+    requires { ⌜ 19 + 17 * k ≤ length (now text) ⌝ }
 {
     let at = 2 + 17 * k;
     let bytes = [
@@ -57,28 +57,53 @@ fn put_number(text: &mut [u8], k: usize, v: u64)
     put_bytes(text, at + 1, &bytes);
 }
 
-fn put_lanes(text: &mut [u8], lanes: [u64; 25])
-    requires { ⌜ 479 ≤ length (now text) ⌝ }
+// Puts lanes as the numbers from k on.
+fn put_lanes(text: &mut [u8], k: usize, lanes: [u64; 25])
+    requires { ⌜ 427 + 17 * k ≤ length (now text) ⌝ }
 {
     let mut i: usize = 0;
     while i < 25 {
-        put_number(text, 3 + i, lanes[i]);
+        put_number(text, k + i, lanes[i]);
         i += 1;
     }
 }
 
+// Puts the phase and the bytes absorbed and squeezed, with which the line of a run begins.
+fn put_totals(text: &mut [u8], phase: u8, absorbed: u64, squeezed: u64)
+    requires { ⌜ 479 ≤ length (now text) ⌝ }
+{
+    put_byte(text, 0, phase);
+    put_number(text, 0, absorbed);
+    put_number(text, 1, squeezed);
+}
+
 // Writes the phase, the bytes absorbed, the bytes squeezed, the position and the lanes.
-pub fn write_run(run: Run, text: &mut [u8]) -> bool
+pub fn write_run(run: turboshake::Run, text: &mut [u8]) -> bool
     requires { ⌜ 479 ≤ length (now text) ⌝ }
 {
     let lanes = run.lanes;
-    put_byte(text, 0, run.phase);
-    put_number(text, 0, run.absorbed);
-    put_number(text, 1, run.squeezed);
+    put_totals(text, run.phase, run.absorbed, run.squeezed);
     put_number(text, 2, run.position as u64);
-    put_lanes(text, lanes);
+    put_lanes(text, 3, lanes);
     put(text, 478, b'\n');
     io::write_all(STDOUT_FILENO, &text[0..479])
+}
+
+// The same of KT: the positions of the final node and of the leaf, then the lanes of each.
+pub fn write_kt_run(run: kangarootwelve::Run, text: &mut [u8]) -> bool
+    requires { ⌜ 921 ≤ length (now text) ⌝ }
+{
+    let node = run.node;
+    let leaf = run.leaf;
+    let node_lanes = node.lanes;
+    let leaf_lanes = leaf.lanes;
+    put_totals(text, run.phase, run.absorbed, run.squeezed);
+    put_number(text, 2, node.position as u64);
+    put_number(text, 3, leaf.position as u64);
+    put_lanes(text, 4, node_lanes);
+    put_lanes(text, 29, leaf_lanes);
+    put(text, 920, b'\n');
+    io::write_all(STDOUT_FILENO, &text[0..921])
 }
 
 pub fn write_status(status: u8) -> bool {

@@ -4,39 +4,45 @@
 // A record is one byte op, four bytes n and n bytes of payload, numbers most significant first. R has no payload: n is the number
 // of bytes wanted, and they go into a buffer that holds A5 in every byte.
 //
-//   N  1 byte function (0 TurboSHAKE128, 1 TurboSHAKE256)       a fresh run in hand                  fresh
+//   N  1 byte function                                          a fresh run in hand                  fresh
 //   A  the piece                                                absorb                               status
-//   F  1 byte domain byte                                       finalize                             status
+//   F  1 byte domain byte, or KT's customization string         finalize                             status
 //   R                                                           squeeze                              status, the buffer
 //   S  1 byte field, 8 bytes value                              writes a field of the run in hand    set
 //   D                                                           no call                              the run in hand
-//   T  1 byte function, 1 byte domain byte, 4 bytes L, message  L bytes in one go                    as R
+//   T  1 byte function, 1 byte domain byte, 4 bytes L, message  L bytes of TurboSHAKE in one go      as R
+//   K  1 byte function, 4 bytes L, 4 bytes length of the        L bytes of KT in one go              as R
+//      customization string, that string, message
+//
+// The functions are 0 TurboSHAKE128, 1 TurboSHAKE256, 2 KT128, 3 KT256.
 //
 // The input's end before a record ends the program. Any other record, or one that does not fit: `bad record`, and the end.
 mod by_number;
 mod field;
+mod kt_run;
 mod line;
 mod number;
+mod one_go;
 mod session;
+mod turboshake_run;
 
 ghost use Prim.Native.Nat.{_+_, _*_, _≤_};
 ghost use lib.ListN.{length};
+use by_number::Chosen;
 use libc::STDIN_FILENO;
 use session::Session;
 
 // The records, but R, that are for the run in hand.
 fn answer_run(session: Session, op: u8, payload: &[u8], text: &mut [u8]) -> Session
-    requires { ⌜ 479 ≤ length (now text) ⌝ }
+    requires { ⌜ 921 ≤ length (now text) ⌝ }
 {
-    if !session.has_run {
-        return session::bad_record(session);
-    }
-    match op {
-        b'A' => session::absorb(session, payload),
-        b'F' => session::finalize(session, payload),
-        b'S' => session::set(session, payload),
-        b'D' => session::dump(session, payload, text),
-        _ => session::bad_record(session),
+    let chosen = session.chosen;
+    match chosen {
+        Chosen::TurboShake(function) => {
+            turboshake_run::answer(session, function, op, payload, text)
+        }
+        Chosen::Kt(function) => kt_run::answer(session, function, op, payload, text),
+        Chosen::Nothing => session::bad_record(session),
     }
 }
 
@@ -44,10 +50,12 @@ fn answer_run(session: Session, op: u8, payload: &[u8], text: &mut [u8]) -> Sess
 fn answer_squeeze(session: Session, out: &mut [u8], text: &mut [u8]) -> Session
     requires { ⌜ 2 * length (now out) + 2 ≤ length (now text) ⌝ }
 {
-    if !session.has_run {
-        return session::bad_record(session);
+    let chosen = session.chosen;
+    match chosen {
+        Chosen::TurboShake(function) => turboshake_run::squeeze(session, function, out, text),
+        Chosen::Kt(function) => kt_run::squeeze(session, function, out, text),
+        Chosen::Nothing => session::bad_record(session),
     }
-    session::squeeze(session, out, text)
 }
 
 fn answer(session: Session, op: u8, payload: &[u8], out: &mut [u8], text: &mut [u8]) -> Session
@@ -56,7 +64,8 @@ fn answer(session: Session, op: u8, payload: &[u8], out: &mut [u8], text: &mut [
 {
     match op {
         b'N' => session::fresh(session, payload),
-        b'T' => session::one_go(session, payload, out, text),
+        b'T' => one_go::turboshake(session, payload, out, text),
+        b'K' => one_go::kt(session, payload, out, text),
         _ => answer_run(session, op, payload, text),
     }
 }

@@ -8,10 +8,10 @@ use Rattle.replay.proofs.line.put_lanes.Statement.{statement}
 use Rattle.replay.proofs.line.put_lanes.Tie as tie
 
 abbrev Inv-loop : tie.InvT-loop
-Inv-loop text₀ lanes i₀ text i = length text ≡ length text₀
+Inv-loop text₀ k lanes i₀ text i = length text ≡ length text₀
 
 abbrev μ-loop : tie.MeasureT-loop
-μ-loop text₀ lanes i₀ text i = 25 - i
+μ-loop text₀ k lanes i₀ text i = 25 - i
 
 pub put-lanes-spec : {M : Type 1} → statement M
 put-lanes-spec =
