@@ -1,19 +1,30 @@
--- What ends a run of KT128: a finalize with an empty customization string, then one squeeze.
+-- What the calls on a run of KT128 come to, whatever is read.
 -- Assumes nothing.
+use mathlib.Core.Path.{_≡_}
 use mathlib.Core.List.{List, []}
-use Prim.Native.Nat.{ℕ}
+use mathlib.Core.Logic.{_⊎_}
+use Prim.Native.Nat.{ℕ, _≤_}
 use lib.ListN.{length}
-use Rattle.sponge.specs.Transcript.{Call.finalize, Call.squeeze}
-use Rattle.kangarootwelve.specs.Model.{answerOf, outputOf}
+use Rattle.sponge.specs.Status.{done, inputTooLong}
+use Rattle.sponge.specs.Transcript.{Call.absorb}
+use Rattle.turboshake.specs.Transcript.{limit}
+use Rattle.kangarootwelve.specs.Published.{kt128}
+use Rattle.kangarootwelve.specs.Model.{freshOf, answerOf}
 use Rattle.kangarootwelve.specs.declared.Run.{Run}
+use Rattle.kangarootwelve.specs.declared.Answer128.{Answer128}
 
-abbrev pub finalizedOf : Run → Run
-finalizedOf r = answerOf 168 32 r (finalize []) .run
+-- r is the run that the message m leaves, absorbed at once
+pub record Left (r : Run) (m : List ℕ) : Type 0 where
+  pub fits : length m ≤ limit
+  pub run : r ≡ answerOf 168 32 (freshOf 168 32) (absorb m) .run
 
--- the squeeze's status
-abbrev pub statusOf : Run → List ℕ → ℕ
-statusOf r out = answerOf 168 32 (finalizedOf r) (squeeze (length out)) .status
+-- what an absorb answers: a message left the run, and no status but 0 and 2 is answered
+pub record Absorbs (a : Answer128) : Type 0 where
+  pub message : List ℕ
+  pub left : Left (a .hasher .run) message
+  pub status : (a .status ≡ done) ⊎ (a .status ≡ inputTooLong)
 
--- what the lent output holds afterwards
-abbrev pub digestOf : Run → List ℕ → List ℕ
-digestOf r out = outputOf 168 32 (finalizedOf r) out
+-- the status and the output of n bytes once the run is finalized with an empty customization string and squeezed: those of the
+-- message that left it
+abbrev pub Digests : Run → ℕ → ℕ → List ℕ → Type 0
+Digests r n status out = (m : List ℕ) → Left r m → (status ≡ done) × (out ≡ kt128 m [] n)

@@ -1,7 +1,9 @@
 // Reads standard input in pieces and writes KT128 of it, with an empty customization string: 32 bytes in hex and a line end. The line
 // is `too long` where an absorb answers that, and `read failed` where a read fails before.
-ghost use mathlib.Core.Path.{_≡_};
-ghost use Rattle.digest.specs.Digest.{statusOf, digestOf};
+ghost use Prim.Native.Nat.{_≤_};
+ghost use lib.ListN.{length};
+ghost use Rattle.turboshake.specs.Transcript.{limit};
+ghost use Rattle.digest.specs.Digest.{Absorbs, Digests};
 use kangarootwelve::Answer128;
 use kangarootwelve::Kt128;
 use libc::STDIN_FILENO;
@@ -15,8 +17,10 @@ struct Absorbed {
     got: isize,
 }
 
-// Nothing is read or absorbed yet.
-fn begin() -> Absorbed {
+// Nothing is absorbed yet; 1 stands for an input that goes on.
+fn begin() -> Absorbed
+    ensures { λ r. ⌜ Absorbs (r .answer) ⌝ }
+{
     let hasher = Kt128::fresh();
     let answer = Answer128 {
         hasher,
@@ -26,7 +30,10 @@ fn begin() -> Absorbed {
 }
 
 // Reads once, and absorbs what came: nothing where the read came to the end or failed.
-fn absorb_some(absorbed: Absorbed, buffer: &mut [u8]) -> Absorbed {
+fn absorb_some(absorbed: Absorbed, buffer: &mut [u8]) -> Absorbed
+    requires { ⌜ Absorbs (absorbed .answer) ⌝ }
+    ensures { λ r. ⌜ Absorbs (r .answer) ⌝ }
+{
     let last = absorbed.answer;
     let hasher = last.hasher;
     let got = libc::read(STDIN_FILENO, buffer);
@@ -41,7 +48,9 @@ fn is_open(got: isize) -> bool {
 }
 
 // A proved loop has to end, and nothing says that the input does: the turns are counted down from a number that no run uses up.
-fn absorb_input(buffer: &mut [u8]) -> Absorbed {
+fn absorb_input(buffer: &mut [u8]) -> Absorbed
+    ensures { λ r. ⌜ Absorbs (r .answer) ⌝ }
+{
     let mut absorbed = begin();
     let mut turns = u64::MAX;
     while 0 < turns && is_open(absorbed.got) && absorbed.answer.status == DONE {
@@ -53,8 +62,8 @@ fn absorb_input(buffer: &mut [u8]) -> Absorbed {
 
 // Ends the message, and squeezes as many bytes as `out` holds.
 fn finish(hasher: Kt128, out: &mut [u8]) -> u8
-    ensures { λ r. ⌜ r ≡ statusOf (hasher .run) (now (out .entry)) ⌝ }
-    ensures { λ r. ⌜ now (out .exit) ≡ digestOf (hasher .run) (now (out .entry)) ⌝ }
+    requires { ⌜ length (now out) ≤ limit ⌝ }
+    ensures { λ r. ⌜ Digests (hasher .run) (length (now (out .entry))) r (now (out .exit)) ⌝ }
 {
     let customization = [0u8; 0];
     let finalized = hasher.finalize(&customization);

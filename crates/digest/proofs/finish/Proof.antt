@@ -1,12 +1,8 @@
 -- `digest::finish` meets its contract: the two calls, one after the other.
 -- Assumes nothing.
-use mathlib.Core.Path.{_≡_, ap, _∙_}
-use lib.ListN.{length}
-use Rattle.sponge.specs.Transcript.{Call.squeeze}
-use Rattle.kangarootwelve.specs.Model.{answerOf, outputOf}
-use Rattle.kangarootwelve.specs.declared.Run.{Run}
+use mathlib.Core.Path.{ap}
 use Rattle.kangarootwelve.specs.declared.Answer128.{Answer128}
-use Rattle.digest.specs.Digest.{finalizedOf}
+use Rattle.digest.proofs.Pieces.{digests}
 use borrow.Author.Needs.{needs}
 use Rattle.digest.proofs.finish.Statement.{statement}
 use Rattle.digest.proofs.finish.Tie as tie
@@ -31,11 +27,10 @@ returns : tie.Need-returns
 returns c =
     let q = c .before .before .squeeze in
     let f = c .before .before .before .before .before .finalize in
-    let a = c .before .before .before .before .before .before .before .before .args in
-    let e : f .result .hasher .run ≡ finalizedOf (a .hasher .run) = ap (λ (x : Answer128). x .hasher .run) (f .ensures) in (
-      ap (λ (x : Answer128). x .status) (q .ensures .0) ∙ ap (λ (r : Run). answerOf 168 32 r (squeeze (length (a .out .now))) .status) e,
-      q .ensures .1 ∙ ap (λ (r : Run). outputOf 168 32 r (a .out .now)) e,
-    )
+    let s = c .before .before .before .before .before .before .before .before in
+    digests (s .args .hasher) (f .result) (s .args .out .now) (q .result .status) (q .last .1 .0) (s .pre) (f .ensures) (ap (λ (x : Answer128). x .status) (q .ensures .0)) (q .ensures .1)
 
 pub finish-spec : {M : Type 1} → statement M
-finish-spec = tie.close (tie.spec slice-aggregate-finalize finalize-requires squeeze-requires same-length returns)
+finish-spec =
+    tie.close
+    (tie.spec slice-aggregate-finalize finalize-requires squeeze-requires same-length returns)
