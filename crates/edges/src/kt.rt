@@ -52,59 +52,43 @@ const MESSAGES: [usize; 25] = [
 // The last one is refused.
 const CUSTOMIZATIONS: [usize; 6] = [0, 1, 255, 256, 65535, 65536];
 
-// Pairs. First those of one, two, two and three chunks; then a single node and a leaf that are one byte short of whole blocks, a
-// leaf of a block and of a block and a byte, and the final node that ends nearest to a block's end.
-const PAIR_MESSAGES_128: [usize; 14] = [
-    8191,
-    8192,
-    8192,
-    8192,
-    166,
-    0,
-    8062,
-    8358,
-    8192,
-    8526,
-    16550,
-    8359,
-    8360,
-    49152,
+// The lengths of a message and of a customization string. In the tables first those of one, two, two and three chunks; then three
+// single nodes and four leaves that are one byte short of whole blocks, leaves of a block and of a block and a byte, and a final node
+// that ends as near to a block's end as one can.
+struct Pair(usize, usize);
+
+const PAIRS_128: [Pair; 14] = [
+    Pair(8191, 0),
+    Pair(8192, 0),
+    Pair(8192, 8189),
+    Pair(8192, 8190),
+    Pair(166, 0),
+    Pair(0, 165),
+    Pair(8062, 0),
+    Pair(8358, 0),
+    Pair(8192, 165),
+    Pair(8526, 0),
+    Pair(16550, 0),
+    Pair(8359, 0),
+    Pair(8360, 0),
+    Pair(49152, 0),
 ];
 
-const PAIR_CUSTOMIZATIONS_128: [usize; 14] = [0, 0, 8189, 8190, 0, 165, 0, 0, 165, 0, 0, 0, 0, 0];
-
-const PAIR_MESSAGES_256: [usize; 14] = [
-    8191,
-    8192,
-    8192,
-    8192,
-    134,
-    0,
-    8158,
-    8326,
-    8192,
-    8462,
-    16518,
-    8327,
-    8328,
-    32767,
-];
-
-const PAIR_CUSTOMIZATIONS_256: [usize; 14] = [
-    0,
-    0,
-    8189,
-    8190,
-    0,
-    133,
-    0,
-    0,
-    133,
-    0,
-    0,
-    0,
-    0,
-    65535,
+const PAIRS_256: [Pair; 14] = [
+    Pair(8191, 0),
+    Pair(8192, 0),
+    Pair(8192, 8189),
+    Pair(8192, 8190),
+    Pair(134, 0),
+    Pair(0, 133),
+    Pair(8158, 0),
+    Pair(8326, 0),
+    Pair(8192, 133),
+    Pair(8462, 0),
+    Pair(16518, 0),
+    Pair(8327, 0),
+    Pair(8328, 0),
+    Pair(32767, 65535),
 ];
 
 // Absorbs the message in pieces, and stops at a call that is refused.
@@ -216,16 +200,15 @@ fn write_messages(function: KtFunction, buffer: &[u8]) -> bool {
     true
 }
 
-fn write_pairs(
-    function: KtFunction,
-    messages: [usize; 14],
-    customizations: [usize; 14],
-    buffer: &[u8],
-) -> bool {
+fn write_pair(function: KtFunction, pair: Pair, buffer: &[u8]) -> bool {
+    let message = pattern(buffer, pair.0);
+    write_line(function, message, pattern(buffer, pair.1), 32)
+}
+
+fn write_pairs(function: KtFunction, pairs: [Pair; 14], buffer: &[u8]) -> bool {
     let mut i: usize = 0;
     while i < 14 {
-        let message = pattern(buffer, messages[i]);
-        if !write_line(function, message, pattern(buffer, customizations[i]), 32) {
+        if !write_pair(function, pairs[i], buffer) {
             return false;
         }
         i += 1;
@@ -249,23 +232,13 @@ fn write_outputs(function: KtFunction, rate: usize, message: &[u8]) -> bool
 
 fn write_128(buffer: &[u8]) -> bool {
     write_messages(KtFunction::Kt128, buffer)
-        && write_pairs(
-            KtFunction::Kt128,
-            PAIR_MESSAGES_128,
-            PAIR_CUSTOMIZATIONS_128,
-            buffer,
-        )
+        && write_pairs(KtFunction::Kt128, PAIRS_128, buffer)
         && write_outputs(KtFunction::Kt128, Kt128::RATE, pattern(buffer, 8192))
 }
 
 fn write_256(buffer: &[u8]) -> bool {
     write_messages(KtFunction::Kt256, buffer)
-        && write_pairs(
-            KtFunction::Kt256,
-            PAIR_MESSAGES_256,
-            PAIR_CUSTOMIZATIONS_256,
-            buffer,
-        )
+        && write_pairs(KtFunction::Kt256, PAIRS_256, buffer)
         && write_outputs(KtFunction::Kt256, Kt256::RATE, pattern(buffer, 8192))
 }
 

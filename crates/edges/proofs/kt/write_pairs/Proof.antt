@@ -6,14 +6,13 @@ use Rattle.edges.proofs.kt.write_pairs.Statement.{statement}
 use Rattle.edges.proofs.kt.write_pairs.Tie as tie
 
 abbrev Inv-loop : tie.InvT-loop
-Inv-loop function buffer messages customizations i₀ i = Unit
+Inv-loop function buffer pairs i₀ i = Unit
 
 abbrev μ-loop : tie.MeasureT-loop
-μ-loop function buffer messages customizations i₀ i = 14 - i
+μ-loop function buffer pairs i₀ i = 14 - i
 
 pub write-pairs-spec : {M : Type 1} → statement M
 write-pairs-spec =
     tie.close
     (tie.spec Inv-loop μ-loop (λ c. search needs) (λ c. search needs) (λ c. search needs) (λ c κs. search needs) (λ c. search needs)
-    (λ c. search needs) (λ c κs. search needs) (λ c κs. search needs) (λ c. search needs) (λ c. search needs) (λ c. search needs)
-    (λ c. search needs) (λ c. search needs))
+    (λ c. search needs) (λ c. search needs) (λ c. search needs) (λ c. search needs))
