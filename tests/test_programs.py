@@ -28,6 +28,12 @@ class Output(unittest.TestCase):
         self.assertEqual((crate / "stdin").read_bytes(), make_replay_sample.stdin())
         self.assertEqual((crate / "stdout").read_text(), make_replay_sample.stdout())
 
+    def test_digest_sample(self):
+        """`rt ci` runs `digest` on document 01's message."""
+        crate = ROOT / "crates/digest"
+        self.assertEqual((crate / "stdin").read_bytes(), reference.ptn(17**3))
+        self.assertEqual((crate / "stdout").read_text(), reference.kt128(reference.ptn(17**3), b"", 32).hex() + "\n")
+
     def test_vectors(self):
         """The draft has 16 vectors of TurboSHAKE128 and 15 of TurboSHAKE256, and 18 of each KT, of which one is refused here."""
         lines = expected.vectors_output().splitlines()
