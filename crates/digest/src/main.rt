@@ -1,8 +1,12 @@
 // Reads standard input in pieces and writes KT128 of it, with an empty customization string: 32 bytes in hex and a line end. The line
 // is `too long` where an absorb answers that, and `read failed` where a read fails before.
+ghost use mathlib.Core.Path.{_≡_};
 ghost use Prim.Native.Nat.{_≤_};
-ghost use lib.ListN.{length};
+ghost use lib.ListN.{length, take};
+ghost use Rattle.io.specs.Counts.{clamped};
+ghost use Rattle.sponge.specs.Transcript.{Call};
 ghost use Rattle.turboshake.specs.Transcript.{limit};
+ghost use Rattle.kangarootwelve.specs.Model.{answer128};
 ghost use Rattle.digest.specs.Digest.{Absorbs, Digests};
 use kangarootwelve::Answer128;
 use kangarootwelve::Kt128;
@@ -29,7 +33,15 @@ fn begin() -> Absorbed
     Absorbed { answer, got: 1 }
 }
 
-// Reads once, and absorbs what came: nothing where the read came to the end or failed.
+// Absorbs the bytes that a read put at the buffer's start: none where it came to the end or failed.
+fn absorb_read(hasher: Kt128, buffer: &[u8], got: isize) -> Answer128
+    ensures { λ r. ⌜ r ≡ answer128 hasher (Call.absorb (take (clamped got (length (now (buffer .entry)))) (now (buffer .entry)))) ⌝ }
+{
+    let n = io::count(got, buffer);
+    hasher.absorb(&buffer[..n])
+}
+
+// Reads once, and absorbs what came.
 fn absorb_some(absorbed: Absorbed, buffer: &mut [u8]) -> Absorbed
     requires { ⌜ Absorbs (absorbed .answer) ⌝ }
     ensures { λ r. ⌜ Absorbs (r .answer) ⌝ }
@@ -37,8 +49,7 @@ fn absorb_some(absorbed: Absorbed, buffer: &mut [u8]) -> Absorbed
     let last = absorbed.answer;
     let hasher = last.hasher;
     let got = libc::read(STDIN_FILENO, buffer);
-    let n = io::count(got, buffer);
-    let answer = hasher.absorb(&buffer[..n]);
+    let answer = absorb_read(hasher, buffer, got);
     Absorbed { answer, got }
 }
 

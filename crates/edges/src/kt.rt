@@ -3,9 +3,7 @@
 //
 // Writes a line for each: the function, the lengths of the message and of the customization string, the bytes asked, `one` with
 // the status and the buffer of the call in one go, and `cut` with those of a run. Both strings are ptn.
-ghost use mathlib.Core.Path.{_≡_};
 ghost use Prim.Native.Nat.{_≤_};
-ghost use lib.ListN.{length};
 use crate::OUTPUT_PIECE;
 use crate::PIECE;
 use crate::fill;

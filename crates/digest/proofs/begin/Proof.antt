@@ -4,9 +4,6 @@ use Rattle.digest.proofs.Pieces.{fresh-absorbs}
 use borrow.Author.Needs.{needs}
 use Rattle.digest.proofs.begin.Statement.{statement}
 use Rattle.digest.proofs.begin.Tie as tie
-use Rattle.digest.proofs.begin.Reads as reads
-use Rattle.digest.proofs.begin.Lts as lts
-use Rattle.kangarootwelve.proofs.Kt128.fresh.Reads as fresh-reads
 
 fresh-requires : tie.Need-fresh-requires
 fresh-requires c κs = search needs

@@ -6,10 +6,6 @@ use Rattle.digest.proofs.Pieces.{digests}
 use borrow.Author.Needs.{needs}
 use Rattle.digest.proofs.finish.Statement.{statement}
 use Rattle.digest.proofs.finish.Tie as tie
-use Rattle.digest.proofs.finish.Reads as reads
-use Rattle.digest.proofs.finish.Lts as lts
-use Rattle.kangarootwelve.proofs.Kt128.finalize.Reads as finalize-reads
-use Rattle.kangarootwelve.proofs.Kt128.squeeze.Reads as squeeze-reads
 
 slice-aggregate-finalize : tie.Need-slice-aggregate-finalize
 slice-aggregate-finalize c = search needs

@@ -7,12 +7,6 @@ use Rattle.functions.specs.Kt.{answerIn}
 use borrow.Author.Needs.{needs}
 use Rattle.functions.proofs.kt.finalize.Statement.{statement}
 use Rattle.functions.proofs.kt.finalize.Tie as tie
-use Rattle.functions.proofs.kt.finalize.Reads as reads
-use Rattle.functions.proofs.kt.finalize.Lts as lts
-use Rattle.functions.proofs.kt.answer_of_128.Reads as answer-of-128-reads
-use Rattle.functions.proofs.kt.answer_of_256.Reads as answer-of-256-reads
-use Rattle.kangarootwelve.proofs.Kt128.finalize.Reads as Kt128-finalize-reads
-use Rattle.kangarootwelve.proofs.Kt256.finalize.Reads as Kt256-finalize-reads
 
 enum-told : tie.Need-enum-told
 enum-told c = search needs

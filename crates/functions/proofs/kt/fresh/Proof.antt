@@ -7,10 +7,6 @@ use Rattle.functions.specs.Kt.{rateOf, chainingOf}
 use borrow.Author.Needs.{needs}
 use Rattle.functions.proofs.kt.fresh.Statement.{statement}
 use Rattle.functions.proofs.kt.fresh.Tie as tie
-use Rattle.functions.proofs.kt.fresh.Reads as reads
-use Rattle.functions.proofs.kt.fresh.Lts as lts
-use Rattle.kangarootwelve.proofs.Kt128.fresh.Reads as Kt128-fresh-reads
-use Rattle.kangarootwelve.proofs.Kt256.fresh.Reads as Kt256-fresh-reads
 
 enum-told : tie.Need-enum-told
 enum-told c = search needs

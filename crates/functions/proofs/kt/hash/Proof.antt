@@ -5,10 +5,6 @@ use Rattle.functions.specs.Kt.{rateOf, chainingOf}
 use borrow.Author.Needs.{needs}
 use Rattle.functions.proofs.kt.hash.Statement.{statement}
 use Rattle.functions.proofs.kt.hash.Tie as tie
-use Rattle.functions.proofs.kt.hash.Reads as reads
-use Rattle.functions.proofs.kt.hash.Lts as lts
-use Rattle.kangarootwelve.proofs.Kt128.hash.Reads as Kt128-hash-reads
-use Rattle.kangarootwelve.proofs.Kt256.hash.Reads as Kt256-hash-reads
 
 enum-told : tie.Need-enum-told
 enum-told c = search needs

@@ -9,12 +9,6 @@ use Rattle.functions.specs.Kt.{rateOf, chainingOf, answerIn}
 use borrow.Author.Needs.{needs}
 use Rattle.functions.proofs.kt.squeeze.Statement.{statement}
 use Rattle.functions.proofs.kt.squeeze.Tie as tie
-use Rattle.functions.proofs.kt.squeeze.Reads as reads
-use Rattle.functions.proofs.kt.squeeze.Lts as lts
-use Rattle.functions.proofs.kt.answer_of_128.Reads as answer-of-128-reads
-use Rattle.functions.proofs.kt.answer_of_256.Reads as answer-of-256-reads
-use Rattle.kangarootwelve.proofs.Kt128.squeeze.Reads as Kt128-squeeze-reads
-use Rattle.kangarootwelve.proofs.Kt256.squeeze.Reads as Kt256-squeeze-reads
 
 enum-told : tie.Need-enum-told
 enum-told c = search needs
