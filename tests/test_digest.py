@@ -160,6 +160,12 @@ class Digest(unittest.TestCase):
         closed = self.started(subprocess.DEVNULL, ("sh", "-c", 'exec "$0" <&-', str(PROGRAM)))
         self.assertEqual(self.output(closed), "read failed\n")
 
+    def test_full_disk(self):
+        """A line that cannot be written is told on standard error: the kit's programs have no exit status of their own."""
+        with open("/dev/full", "wb") as full:
+            done = subprocess.run([str(PROGRAM)], input=b"", stdout=full, stderr=subprocess.PIPE, timeout=SECONDS)
+        self.assertEqual(done.stderr, b"write failed: No space left on device\n")
+
     def test_read_fails_later(self):
         """The master of a terminal gives what was written to the other end, and an error once that end is closed."""
         for size in (1, 8192, 100_000):

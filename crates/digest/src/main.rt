@@ -103,12 +103,13 @@ fn write_digest(hasher: Kt128) -> bool {
     finish(hasher, &mut out) == DONE && write_bytes(&out) && io::write_all(STDOUT_FILENO, b"\n")
 }
 
+// A digest is written only where the last read came to the input's end.
 fn write_line(absorbed: Absorbed) -> bool {
     let answer = absorbed.answer;
     if answer.status == INPUT_TOO_LONG {
         return io::write_all(STDOUT_FILENO, b"too long\n");
     }
-    if absorbed.got < 0 {
+    if absorbed.got != 0 {
         return io::write_all(STDOUT_FILENO, b"read failed\n");
     }
     let hasher = answer.hasher;
@@ -118,5 +119,7 @@ fn write_line(absorbed: Absorbed) -> bool {
 fn main() {
     let mut buffer = io::large_buffer();
     let absorbed = absorb_input(&mut buffer);
-    write_line(absorbed);
+    if !write_line(absorbed) {
+        os::fail(b"write failed");
+    }
 }
