@@ -1,4 +1,5 @@
-// The tree over lent lanes: S goes into the final node and the leaf in hand, a chunk at a time.
+// The tree over lent lanes: S goes into the final node and the leaf in hand, a chunk at a time. The sponge's calls get positions within
+// their blocks here, so each is proved to answer 0, and no status is looked at.
 ghost use mathlib.Core.Path.{_≡_};
 ghost use Prim.Native.Nat.{_<_, _≤_, _+_, _^_, min};
 ghost use lib.ListN.{length};
