@@ -57,7 +57,10 @@ encoded x i s h l e =
     drop-set-add i s (8 - i) (8 - i) ∙ set-split (drop i s) (8 - i) (8 - i) (omega arith) in
     let none : drop (suc (8 - i)) (drop i s) ≡ [] = drop-of-length-le (drop i s) {i = suc (8 - i)} (omega arith) in
     let count : length (digits x x) ≡ 8 - i = ap length (sym e) ∙ length-take-le (8 - i) (drop i s) (omega arith) in
-    ap (λ (k : ℕ). drop i (set s k (8 - i))) (sym w) ∙ put ∙ rw (none, e, count)
+    ap (λ (k : ℕ). drop i (set s k (8 - i))) (sym w) ∙ put
+    ∙ ap (λ (r : List ℕ). take (8 - i) (drop i s) ++ (8 - i) ∷ r) none
+    ∙ ap (λ (r : List ℕ). r ++ (8 - i) ∷ []) e
+    ∙ ap (λ (k : ℕ). digits x x ++ k ∷ []) (sym count)
 
 -- the part from there to the array's end
 pub encoded-part : (i x : ℕ) (s : List ℕ) → length s ≡ 9 → drop i s ≡ lengthEncode x → take (9 - i) (drop i s) ≡ lengthEncode x
