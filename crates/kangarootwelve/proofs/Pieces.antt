@@ -42,11 +42,11 @@ module _ (rate chaining : ℕ) (pos : 0 < rate) where
 
   pub absorb-piece : (m p : List ℕ) → length (m ++ p) ≤ limit → answerOf rate chaining (absorbedRun m) (absorb p) ≡ record { status = 0; run = absorbedRun (m ++ p) }
   unfolding absorbedRun answerOf answered rules
-  absorb-piece m p l = ap answered (pieces.absorb-piece (rules rate chaining) (machine rate chaining) (laws rate chaining pos) m p l)
+  absorb-piece m p l = ap answered (pieces.absorb-piece (rules rate chaining) (machine rate chaining) (laws rate chaining pos) m p refl l)
 
   pub absorb-long : (m p : List ℕ) → length m ≤ limit → limit < length (m ++ p) → answerOf rate chaining (absorbedRun m) (absorb p) ≡ record { status = 2; run = absorbedRun m }
   unfolding absorbedRun answerOf answered rules
-  absorb-long m p h l = ap answered (pieces.absorb-long (rules rate chaining) (machine rate chaining) (laws rate chaining pos) m p h l)
+  absorb-long m p h l = ap answered (pieces.absorb-long (rules rate chaining) (machine rate chaining) (laws rate chaining pos) m p refl h l)
 
   pub finalize-run : (m c : List ℕ) → length m ≤ limit → customizationStatus (length c) ≡ 0
       → answerOf rate chaining (absorbedRun m) (finalize c) ≡ record { status = 0; run = finalizedRun m c }

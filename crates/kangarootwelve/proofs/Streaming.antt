@@ -14,6 +14,7 @@ use Rattle.sponge.specs.Runs.{freshRun, perform, runOf}
 use Rattle.sponge.specs.Streaming.{history, Streaming, told}
 use Rattle.sponge.proofs.Corollaries as generic
 use Rattle.sponge.proofs.Corollaries.{Corollaries, history-held}
+use Rattle.sponge.proofs.Reachable.{Statuses}
 use Rattle.kangarootwelve.specs.Transcript.{customizationLimit, customizationStatus, rules}
 use Rattle.kangarootwelve.specs.Model.{machine, held, freshOf, answerOf, replyOf}
 use Rattle.kangarootwelve.proofs.Laws.{positions, due, shape, shaped, laws, stays}
@@ -27,16 +28,16 @@ no-five rate chaining c e = by (leb (length c) customizationLimit) e
     by true e = omega arith
     by false e = omega arith
 
-empty-taken : (rate chaining : ℕ) → rules rate chaining .argument [] ≡ 0
+pub statuses : (rate chaining : ℕ) → Statuses (rules rate chaining)
 unfolding rules customizationStatus
-empty-taken rate chaining = refl
+statuses rate chaining = record { nothing-taken = refl; byte-taken = refl; piece-other = λ n e. omega arith; some = []; some-taken = refl; argument-other = no-five rate chaining }
 
 module _ (rate chaining : ℕ) (pos : 0 < rate) where
   -- the list theorem at the published KT, calls in a row, refusals, and status 5 in both directions
   pub corollaries : Corollaries (rules rate chaining) (machine rate chaining) positions
   corollaries =
       generic.corollaries (rules rate chaining) (machine rate chaining) (laws rate chaining pos) (stays rate chaining pos) positions (due rate chaining)
-      (shape rate chaining) (shaped rate chaining) [] (empty-taken rate chaining) (no-five rate chaining)
+      (shape rate chaining) (shaped rate chaining) (statuses rate chaining)
 
   pub streaming : (cs : List (Call (List ℕ))) → Streaming (rules rate chaining) (machine rate chaining) cs
   streaming = corollaries .streaming

@@ -18,6 +18,6 @@ customizationLimit = 65535
 unfoldable pub customizationStatus : ℕ → ℕ
 customizationStatus n = cond (leb n customizationLimit) done customizationTooLong
 
--- the published function, the status of C, and the limits; the bytes absorbed are those of M alone
+-- the published function, the status of C, and the limits; any piece is taken; the bytes absorbed are those of M alone
 unfoldable pub rules : ℕ → ℕ → Rules (List ℕ)
-rules rate chaining = record { output = kt rate chaining; argument = λ c. customizationStatus (length c); inputLimit = limit; outputLimit = limit }
+rules rate chaining = record { output = kt rate chaining; argument = λ c. customizationStatus (length c); piece = λ n. done; inputLimit = limit; outputLimit = limit }

@@ -3,7 +3,7 @@
 use mathlib.Core.Path.{_≡_}
 use mathlib.Core.List.{List}
 use mathlib.Core.Bool.{true, false}
-use Prim.Native.Nat.{ℕ, _+_, _≤_, _<_}
+use Prim.Native.Nat.{ℕ, suc, _+_, _≤_, _<_}
 use borrow.Author.Tests.{eq-eqb, ne-eqb, le-leb, lt-leb}
 use lib.ListN.{length}
 use Rattle.sponge.specs.Transcript.{Call, Call.absorb, Call.finalize, Call.squeeze, Rules}
@@ -17,11 +17,14 @@ module _ {S A : Type 0} (U : Rules A) (M : Machine S A) (r : Run S) where
     pub absorb-3 : (p : List ℕ) → (r .phase ≡ 0 → ⊥) → runStatus U M r (absorb p) ≡ 3
     absorb-3 p f = rw (e, ne-eqb (r .phase) 0 f)
 
-    pub absorb-2 : (p : List ℕ) → r .phase ≡ 0 → U .inputLimit < r .absorbed + length p → runStatus U M r (absorb p) ≡ 2
-    absorb-2 p f g = rw (e, eq-eqb (r .phase) 0 f, lt-leb (r .absorbed + length p) (U .inputLimit) g)
+    pub absorb-refused : (p : List ℕ) (n : ℕ) → r .phase ≡ 0 → U .piece (length p) ≡ suc n → runStatus U M r (absorb p) ≡ suc n
+    absorb-refused p n f g = rw (e, eq-eqb (r .phase) 0 f, g)
 
-    pub absorb-0 : (p : List ℕ) → r .phase ≡ 0 → r .absorbed + length p ≤ U .inputLimit → runStatus U M r (absorb p) ≡ 0
-    absorb-0 p f g = rw (e, eq-eqb (r .phase) 0 f, le-leb (r .absorbed + length p) (U .inputLimit) g)
+    pub absorb-2 : (p : List ℕ) → r .phase ≡ 0 → U .piece (length p) ≡ 0 → U .inputLimit < r .absorbed + length p → runStatus U M r (absorb p) ≡ 2
+    absorb-2 p f h g = rw (e, eq-eqb (r .phase) 0 f, h, lt-leb (r .absorbed + length p) (U .inputLimit) g)
+
+    pub absorb-0 : (p : List ℕ) → r .phase ≡ 0 → U .piece (length p) ≡ 0 → r .absorbed + length p ≤ U .inputLimit → runStatus U M r (absorb p) ≡ 0
+    absorb-0 p f h g = rw (e, eq-eqb (r .phase) 0 f, h, le-leb (r .absorbed + length p) (U .inputLimit) g)
 
     pub finalize-3 : (a : A) → (r .phase ≡ 0 → ⊥) → runStatus U M r (finalize a) ≡ 3
     finalize-3 a f = rw (e, ne-eqb (r .phase) 0 f)

@@ -13,7 +13,7 @@ use Rattle.sponge.specs.Runs.{Run, Machine, perform}
 use Rattle.sponge.specs.Streaming.{History, history, Streaming, told, ran}
 use Rattle.sponge.proofs.Streaming as generic
 use Rattle.sponge.proofs.Joining as joining
-use Rattle.sponge.proofs.Reachable.{Reached, Shape, reachable-reached, reached-reachable, status-five, five-status}
+use Rattle.sponge.proofs.Reachable.{Statuses, Reached, Shape, reachable-reached, reached-reachable, status-five, five-status}
 
 -- ---- what is claimed
 
@@ -21,6 +21,7 @@ module _ {S A : Type 0} (U : Rules A) (M : Machine S A) (positions : S → List 
   -- calls in a row on any run that 5 does not refuse, reached or not
   pub record Joins : Type 0 where
     pub absorb-absorb : (r : Run S) (a b : List ℕ) → M .reachable r ≡ true → r .phase ≡ 0 → r .absorbed + length (a ++ b) ≤ U .inputLimit
+        → U .piece (length a) ≡ 0 → U .piece (length b) ≡ 0 → U .piece (length (a ++ b)) ≡ 0
         → perform U M (perform U M r (absorb a) .left) (absorb b) ≡ perform U M r (absorb (a ++ b))
     pub absorb-nothing : (r : Run S) → M .reachable r ≡ true → r .phase ≡ 0 → perform U M r (absorb []) ≡ record { status = 0; bytes = []; left = r }
     pub squeeze-squeeze : (r : Run S) (m n : ℕ) → M .reachable r ≡ true → r .phase ≡ 1 → r .squeezed + (m + n) ≤ U .outputLimit
@@ -48,11 +49,11 @@ module _ {S A : Type 0} (U : Rules A) (M : Machine S A) (positions : S → List 
     pub refusals : Refusals
     pub five : Five
 
--- ---- the proof, once for every function; a is a finalize's argument that is taken, and no argument answers 5
+-- ---- the proof, once for every function
 
 module _ {S A : Type 0} (U : Rules A) (M : Machine S A) (L : generic.Laws U M) (stays : joining.Stays U M) (positions : S → List ℕ) (due : ℕ → ℕ → ℕ → List ℕ)
     (shape : (r : Run S) → M .reachable r ≡ true → Shape U positions due r) (shaped : (r : Run S) → Shape U positions due r → M .reachable r ≡ true)
-    (a : A) (taken : U .argument a ≡ 0) (other : (a : A) → U .argument a ≡ unreachable → ⊥) where
+    (O : Statuses U) where
   squeeze-nothing : (r : Run S) → M .reachable r ≡ true → r .phase ≡ 1 → perform U M r (squeeze 0) ≡ record { status = 0; bytes = []; left = r }
   squeeze-nothing r h o =
       let fits : r .squeezed ≤ U .outputLimit = subst (λ (p : ℕ). r .squeezed ≤ cond (eqb p 0) 0 (U .outputLimit)) o (shape r h .squeezed-fits) in
@@ -61,20 +62,20 @@ module _ {S A : Type 0} (U : Rules A) (M : Machine S A) (L : generic.Laws U M) (
   joins : Joins U M positions
   joins = record {
     absorb-absorb = joining.absorb-absorb U M L stays;
-    absorb-nothing = λ r h o. joining.absorb-nothing U M L stays r h o (shape r h .absorbed-fits);
+    absorb-nothing = λ r h o. joining.absorb-nothing U M L stays r h o (shape r h .absorbed-fits) (O .nothing-taken);
     squeeze-squeeze = joining.squeeze-squeeze U M L stays;
     squeeze-nothing = squeeze-nothing;
   }
 
   five-unreached : (r : Run S) (c : Call A) → perform U M r c .status ≡ unreachable → Reached U M positions r → ⊥
-  five-unreached r c e g = subst T (sym (reached-reachable U M L positions due shape shaped r g) ∙ status-five U M other r c e) tt
+  five-unreached r c e g = subst T (sym (reached-reachable U M L positions due shape shaped r g) ∙ status-five U M O r c e) tt
 
   unreached-five : (r : Run S) (c : Call A) → (Reached U M positions r → ⊥) → perform U M r c .status ≡ unreachable
   unreached-five r c g = by (M .reachable r) refl
     where
       by : (t : Bool) → M .reachable r ≡ t → perform U M r c .status ≡ unreachable
-      by true e = absurd (g (reachable-reached U M L positions due shape shaped a taken r e))
-      by false e = five-status U M other r c e
+      by true e = absurd (g (reachable-reached U M L positions due shape shaped O r e))
+      by false e = five-status U M O r c e
 
   pub corollaries : Corollaries U M positions
   corollaries = record {

@@ -64,25 +64,26 @@ Stays {S} {A} U M = (r : Run S) (c : Call A) → M .reachable r ≡ true → sta
 
 module _ {S A : Type 0} (U : Rules A) (M : Machine S A) (L : Laws U M) (stays : Stays U M) where
   pub absorb-absorb : (r : Run S) (a b : List ℕ) → M .reachable r ≡ true → r .phase ≡ 0 → r .absorbed + length (a ++ b) ≤ U .inputLimit
+      → U .piece (length a) ≡ 0 → U .piece (length b) ≡ 0 → U .piece (length (a ++ b)) ≡ 0
       → perform U M (perform U M r (absorb a) .left) (absorb b) ≡ perform U M r (absorb (a ++ b))
   unfolding perform
-  absorb-absorb r a b h o l =
+  absorb-absorb r a b h o l f g w =
       let l′ : r .absorbed + (length a + length b) ≤ U .inputLimit = rw length-append at l in
       let open0 : eqb (r .phase) 0 ≡ true = eq-eqb _ _ o in
       let first : leb (r .absorbed + length a) (U .inputLimit) ≡ true = le-leb (r .absorbed + length a) (U .inputLimit) (omega arith) in
       let second : leb (r .absorbed + length a + length b) (U .inputLimit) ≡ true = le-leb (r .absorbed + length a + length b) (U .inputLimit) (omega arith) in
       let whole : leb (r .absorbed + length (a ++ b)) (U .inputLimit) ≡ true = le-leb (r .absorbed + length (a ++ b)) (U .inputLimit) l in
-      let after-a : perform U M r (absorb a) ≡ record { status = 0; bytes = []; left = worked U M r (absorb a) } = rw (h, open0, first) in
-      let h′ : M .reachable (worked U M r (absorb a)) ≡ true = stays r (absorb a) h (rw (open0, first)) in
-      rw after-a (rw (h′, h, open0, second, whole) (rw (L .absorb-append (r .absorbed) (r .state) a b, length-append a b, ← add-assoc)))
+      let after-a : perform U M r (absorb a) ≡ record { status = 0; bytes = []; left = worked U M r (absorb a) } = rw (h, open0, f, first) in
+      let h′ : M .reachable (worked U M r (absorb a)) ≡ true = stays r (absorb a) h (rw (open0, f, first)) in
+      rw after-a (rw (h′, h, open0, g, w, second, whole) (rw (L .absorb-append (r .absorbed) (r .state) a b, length-append a b, ← add-assoc)))
 
-  pub absorb-nothing : (r : Run S) → M .reachable r ≡ true → r .phase ≡ 0 → r .absorbed ≤ U .inputLimit
+  pub absorb-nothing : (r : Run S) → M .reachable r ≡ true → r .phase ≡ 0 → r .absorbed ≤ U .inputLimit → U .piece 0 ≡ 0
       → perform U M r (absorb []) ≡ record { status = 0; bytes = []; left = r }
   unfolding perform
-  absorb-nothing r h o l =
+  absorb-nothing r h o l f =
       let open0 : eqb (r .phase) 0 ≡ true = eq-eqb _ _ o in
       let fits : leb (r .absorbed) (U .inputLimit) ≡ true = le-leb (r .absorbed) (U .inputLimit) l in
-      rw (h, open0, add-zero, fits, L .absorb-nothing (r .absorbed) (r .state))
+      rw (h, open0, f, add-zero, fits, L .absorb-nothing (r .absorbed) (r .state))
 
   -- the bytes are the joined ones, and the run left is the same
   pub squeeze-squeeze : (r : Run S) (m n : ℕ) → M .reachable r ≡ true → r .phase ≡ 1 → r .squeezed + (m + n) ≤ U .outputLimit

@@ -13,6 +13,7 @@ pub mod Reachable
 pub mod Corollaries
 pub mod Answers
 pub mod Pieces
+pub mod PieceStatus
 mod Words
 mod Output
 mod Blocks

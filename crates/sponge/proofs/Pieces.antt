@@ -29,19 +29,19 @@ module _ {S A : Type 0} (U : Rules A) (M : Machine S A) where
   finalizedRun m a = runOf U M (told m (squeezing a))
 
   module _ (L : Laws U M) where
-    pub absorb-piece : (m p : List ℕ) → length (m ++ p) ≤ U .inputLimit
+    pub absorb-piece : (m p : List ℕ) → U .piece (length p) ≡ 0 → length (m ++ p) ≤ U .inputLimit
         → perform U M (absorbedRun m) (absorb p) ≡ record { status = 0; bytes = []; left = absorbedRun (m ++ p) }
-    absorb-piece m p l =
+    absorb-piece m p f l =
         let n : length m + length p ≤ U .inputLimit = rw length-append at l in
         performs U M L (told m absorbing) (absorb p) (fits U m absorbing (omega arith))
-        ∙ rw (transcribe-done U (told m absorbing) (absorb p) (rw (le-leb (length m + length p) (U .inputLimit) n)))
+        ∙ rw (transcribe-done U (told m absorbing) (absorb p) (rw (f, le-leb (length m + length p) (U .inputLimit) n)))
 
-    pub absorb-long : (m p : List ℕ) → length m ≤ U .inputLimit → U .inputLimit < length (m ++ p)
+    pub absorb-long : (m p : List ℕ) → U .piece (length p) ≡ 0 → length m ≤ U .inputLimit → U .inputLimit < length (m ++ p)
         → perform U M (absorbedRun m) (absorb p) ≡ record { status = 2; bytes = []; left = absorbedRun m }
-    absorb-long m p h l =
+    absorb-long m p f h l =
         let n : U .inputLimit < length m + length p = rw length-append at l in
         performs U M L (told m absorbing) (absorb p) (fits U m absorbing h)
-        ∙ rw (transcribe-refused U (told m absorbing) (absorb p) 1 (rw (lt-leb (length m + length p) (U .inputLimit) n)))
+        ∙ rw (transcribe-refused U (told m absorbing) (absorb p) 1 (rw (f, lt-leb (length m + length p) (U .inputLimit) n)))
 
     pub finalize-run : (m : List ℕ) (a : A) → length m ≤ U .inputLimit → U .argument a ≡ 0
         → perform U M (absorbedRun m) (finalize a) ≡ record { status = 0; bytes = []; left = finalizedRun m a }

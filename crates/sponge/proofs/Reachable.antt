@@ -2,38 +2,63 @@
 -- for a machine whose test looks at nothing else.
 -- Assumes nothing.
 use mathlib.Core.Path.{_≡_, refl, sym, ap, _∙_, subst}
-use mathlib.Core.List.{List, [], _∷_}
+use mathlib.Core.List.{List, [], _∷_, _++_, append-nil, append-assoc}
 use mathlib.Core.Bool.{Bool, true, false, cond}
 use Prim.Native.Nat.{ℕ, zero, suc, _+_, _≤_}
 use native.Mathlib.Nat.{zero-add}
 use native.Mathlib.Omega.{arith}
-use lib.ListN.{length, replicate, length-replicate}
+use lib.ListN.{length, replicate, length-append, length-replicate}
 use lib.Dec.{eqb, leb}
 use borrow.Author.Tests.{le-leb}
-use Rattle.sponge.specs.Status.{unreachable}
-use Rattle.sponge.specs.Transcript.{Call, Call.absorb, Call.finalize, Call.squeeze, Phase, Phase.absorbing, Phase.squeezing, phaseNumber, Transcript, Rules, statusOf, transcribe}
+use Rattle.sponge.specs.Status.{unreachable, firstOf}
+use Rattle.sponge.specs.Transcript.{Call, Call.absorb, Call.finalize, Call.squeeze, Phase, Phase.absorbing, Phase.squeezing, phaseNumber, Transcript, Rules, Reply, statusOf, transcribe}
 use Rattle.sponge.specs.Runs.{Run, Machine, perform, runOf}
-use Rattle.sponge.specs.Streaming.{told, ran}
-use Rattle.sponge.proofs.Joining.{perform-status}
+use Rattle.sponge.specs.Streaming.{history, told, ran}
+use Rattle.sponge.proofs.Joining.{perform-status, transcribe-done}
 use Rattle.sponge.proofs.Streaming.{Fits, Laws, streaming, told-fits}
 
 -- ---- every transcript within the limits, finalized with what is taken, is told by a list of calls
 
 module _ {S A : Type 0} (U : Rules A) (M : Machine S A) where
+  abbrev pub closing : Phase A → ℕ → List (Call A)
+  closing absorbing n = []
+  closing (squeezing a) n = finalize a ∷ squeeze n ∷ []
+
+  -- byte by byte, for a function may refuse a long piece
   abbrev pub callsTo : List ℕ → Phase A → ℕ → List (Call A)
-  callsTo f absorbing n = absorb f ∷ []
-  callsTo f (squeezing a) n = absorb f ∷ finalize a ∷ squeeze n ∷ []
+  callsTo [] h n = closing h n
+  callsTo (b ∷ f) h n = absorb (b ∷ []) ∷ callsTo f h n
 
   abbrev pub Taken : Phase A → Type 0
   Taken absorbing = Unit {0}
   Taken (squeezing a) = U .argument a ≡ 0
 
-  pub reach : (f : List ℕ) (h : Phase A) (n : ℕ) → Fits U (record { absorbed = f; phase = h; squeezed = n }) → Taken h
-      → told U M (callsTo f h n) .left ≡ record { absorbed = f; phase = h; squeezed = n }
+  -- from the transcript that has absorbed e
+  reach-from : U .piece 1 ≡ 0 → (e f : List ℕ) (h : Phase A) (n : ℕ) → Fits U (record { absorbed = e ++ f; phase = h; squeezed = n }) → Taken h
+      → history (transcribe U) (record { absorbed = e; phase = absorbing; squeezed = 0 }) (callsTo f h n) .left ≡ record { absorbed = e ++ f; phase = h; squeezed = n }
   unfolding transcribe
-  reach f absorbing zero l t = rw (zero-add, le-leb (length f) (U .inputLimit) (l .input-fits))
-  reach f absorbing (suc n) l t = absurd (omega arith)
-  reach f (squeezing a) n l t = rw (zero-add, le-leb (length f) (U .inputLimit) (l .input-fits)) (rw t (rw (zero-add, le-leb n (U .outputLimit) (l .output-fits))))
+  reach-from one e [] absorbing zero l t = rw (append-nil e)
+  reach-from one e [] absorbing (suc n) l t = absurd (let k = l .output-fits in omega arith)
+  reach-from one e [] (squeezing a) n l t = rw t (rw (zero-add, le-leb n (U .outputLimit) (l .output-fits), append-nil e))
+  reach-from one e (b ∷ f) h n l t =
+      let k : length e + suc (length f) ≤ U .inputLimit = rw length-append at (l .input-fits) in
+      let s : statusOf U 0 (length e) 0 (absorb (b ∷ [])) ≡ 0 = rw (one, le-leb (length e + 1) (U .inputLimit) (omega arith)) in
+      ap (λ (y : Reply (Transcript A)). history (transcribe U) (y .left) (callsTo f h n) .left) (transcribe-done U (record { absorbed = e; phase = absorbing; squeezed = 0 }) (absorb (b ∷ [])) s)
+      ∙ reach-from one (e ++ b ∷ []) f h n (record { input-fits = rw (append-assoc e (b ∷ []) f) (l .input-fits); output-fits = l .output-fits }) t
+      ∙ ap (λ (s : List ℕ). record { absorbed = s; phase = h; squeezed = n }) (append-assoc e (b ∷ []) f)
+
+  pub reach : U .piece 1 ≡ 0 → (f : List ℕ) (h : Phase A) (n : ℕ) → Fits U (record { absorbed = f; phase = h; squeezed = n }) → Taken h
+      → told U M (callsTo f h n) .left ≡ record { absorbed = f; phase = h; squeezed = n }
+  reach one f h n l t = reach-from one [] f h n l t
+
+-- what the statuses of pieces and arguments owe: nothing, and a byte alone, are taken, some argument is, and none is answered 5
+pub record Statuses {A : Type 0} (U : Rules A) : Type 0 where
+  pub nothing-taken : U .piece 0 ≡ 0
+  pub byte-taken : U .piece 1 ≡ 0
+  pub piece-other : (n : ℕ) → U .piece n ≡ unreachable → ⊥
+  pub some : A
+  pub some-taken : U .argument some ≡ 0
+  pub argument-other : (a : A) → U .argument a ≡ unreachable → ⊥
 
 -- a list of calls from a fresh run that leaves r's phase, totals and positions
 pub record Reached {S A : Type 0} (U : Rules A) (M : Machine S A) (positions : S → List ℕ) (r : Run S) : Type 0 where
@@ -54,13 +79,13 @@ module _ {S A : Type 0} (U : Rules A) (M : Machine S A) (L : Laws U M) (position
     (shape : (r : Run S) → M .reachable r ≡ true → Shape U positions due r) (shaped : (r : Run S) → Shape U positions due r → M .reachable r ≡ true) where
   -- ---- a run that the test passes is reached by a list of calls
 
-  module _ (a : A) (taken : U .argument a ≡ 0) where
+  module _ (O : Statuses U) where
     reached-by : (h : Phase A) → Taken U M h → (s : S) (n k : ℕ) → M .reachable (record { state = s; phase = phaseNumber h; absorbed = n; squeezed = k }) ≡ true
         → Fits U (record { absorbed = replicate n 0; phase = h; squeezed = k }) → Reached U M positions (record { state = s; phase = phaseNumber h; absorbed = n; squeezed = k })
     reached-by h t s n k e fits =
         let b : Transcript A = record { absorbed = replicate n 0; phase = h; squeezed = k } in
         let is : ran U M (callsTo U M (replicate n 0) h k) .left ≡ runOf U M b =
-        streaming U M L (callsTo U M (replicate n 0) h k) .run ∙ ap (runOf U M) (reach U M (replicate n 0) h k fits t) in
+        streaming U M L (callsTo U M (replicate n 0) h k) .run ∙ ap (runOf U M) (reach U M (O .byte-taken) (replicate n 0) h k fits t) in
         let l : length {A = ℕ} (replicate n 0) ≡ n = length-replicate n 0 in
         record {
           calls = callsTo U M (replicate n 0) h k;
@@ -79,7 +104,7 @@ module _ {S A : Type 0} (U : Rules A) (M : Machine S A) (L : Laws U M) (position
         reached-by absorbing tt s n k e (record { input-fits = rw (length-replicate {A = ℕ} n 0) (t .absorbed-fits); output-fits = t .squeezed-fits })
     reached-at s (suc zero) n k e =
         let t = shape _ e in
-        reached-by (squeezing a) taken s n k e (record { input-fits = rw (length-replicate {A = ℕ} n 0) (t .absorbed-fits); output-fits = t .squeezed-fits })
+        reached-by (squeezing (O .some)) (O .some-taken) s n k e (record { input-fits = rw (length-replicate {A = ℕ} n 0) (t .absorbed-fits); output-fits = t .squeezed-fits })
     reached-at s (suc (suc h)) n k e = absurd (let l = shape _ e .phase-fits in omega arith)
 
     pub reachable-reached : (r : Run S) → M .reachable r ≡ true → Reached U M positions r
@@ -101,18 +126,25 @@ module _ {S A : Type 0} (U : Rules A) (M : Machine S A) (L : Laws U M) (position
 
 -- ---- 5 is the status of that test and of no other
 
-module _ {S A : Type 0} (U : Rules A) (M : Machine S A) (other : (a : A) → U .argument a ≡ unreachable → ⊥) where
+module _ {S A : Type 0} (U : Rules A) (M : Machine S A) (O : Statuses U) where
   limit-other : (t o : Bool) (n m : ℕ) → (n ≡ unreachable → ⊥) → (m ≡ unreachable → ⊥) → cond o (cond t 0 n) m ≡ unreachable → ⊥
   limit-other true true n m f g e = omega arith
   limit-other false true n m f g e = f e
   limit-other t false n m f g e = g e
 
+  piece-other : (o : Bool) (s n : ℕ) → (s ≡ unreachable → ⊥) → (cond o n 3 ≡ unreachable → ⊥) → cond o (firstOf s n) 3 ≡ unreachable → ⊥
+  piece-other true zero n f g e = g e
+  piece-other true (suc s) n f g e = f e
+  piece-other false s n f g e = omega arith
+
   argument-other : (o : Bool) (a : A) → cond o (U .argument a) 3 ≡ unreachable → ⊥
-  argument-other true a e = other a e
+  argument-other true a e = O .argument-other a e
   argument-other false a e = omega arith
 
   status-other : (h n k : ℕ) (c : Call A) → statusOf U h n k c ≡ unreachable → ⊥
-  status-other h n k (absorb p) e = limit-other (leb (n + length p) (U .inputLimit)) (eqb h 0) 2 3 (λ e. omega arith) (λ e. omega arith) e
+  status-other h n k (absorb p) e =
+      piece-other (eqb h 0) (U .piece (length p)) (cond (leb (n + length p) (U .inputLimit)) 0 2) (O .piece-other (length p))
+      (limit-other (leb (n + length p) (U .inputLimit)) (eqb h 0) 2 3 (λ e. omega arith) (λ e. omega arith)) e
   status-other h n k (finalize a) e = argument-other (eqb h 0) a e
   status-other h n k (squeeze j) e = limit-other (leb (k + j) (U .outputLimit)) (eqb h 1) 6 3 (λ e. omega arith) (λ e. omega arith) e
 

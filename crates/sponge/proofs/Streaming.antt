@@ -12,6 +12,7 @@ use borrow.Author.Tests.{leb-true}
 use Rattle.sponge.specs.Transcript.{Call, Call.absorb, Call.finalize, Call.squeeze, Phase, Phase.absorbing, Phase.squeezing, phaseNumber, Transcript, freshTranscript, Rules, Reply, statusOf, outputOf, written, given, transcribe}
 use Rattle.sponge.specs.Runs.{Run, Machine, worked, bytesOut, perform, stateOf, runOf}
 use Rattle.sponge.specs.Streaming.{history, joined, Streaming}
+use Rattle.sponge.proofs.FirstStatus.{first-zero}
 
 pub cond-zero : (t : Bool) (n : ℕ) → cond t 0 (suc n) ≡ 0 → t ≡ true
 cond-zero true n e = refl
@@ -73,7 +74,7 @@ module _ {S A : Type 0} (U : Rules A) (M : Machine S A) (L : Laws U M) where
   done f absorbing n (absorb p) h e = record {
     bytes = refl;
     run = rw (L .absorb-append 0 (M .fresh) f p, zero-add, length-append f p);
-    fits = record { input-fits = rw (length-append f p) (leb-true _ _ (cond-zero _ _ e)); output-fits = h .output-fits };
+    fits = record { input-fits = rw (length-append f p) (leb-true _ _ (cond-zero _ _ (first-zero (U .piece (length p)) _ e))); output-fits = h .output-fits };
     extends = refl;
   }
   done f (squeezing a) n (finalize b) h e = absurd (omega arith)

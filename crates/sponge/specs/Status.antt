@@ -33,6 +33,10 @@ outputTooLong = 6
 abbrev pub badLength : ℕ
 badLength = 7
 
+-- an event of a day is longer than its limit
+abbrev pub eventTooLong : ℕ
+eventTooLong = 8
+
 -- the first status of two that is not 0
 abbrev pub firstOf : ℕ → ℕ → ℕ
 firstOf zero n = n

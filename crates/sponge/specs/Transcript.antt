@@ -6,7 +6,7 @@ use mathlib.Core.Bool.{cond}
 use Prim.Native.Nat.{ℕ, zero, suc, _+_}
 use lib.ListN.{length, drop}
 use lib.Dec.{eqb, leb}
-use Rattle.sponge.specs.Status.{done, inputTooLong, wrongPhase, outputTooLong}
+use Rattle.sponge.specs.Status.{done, inputTooLong, wrongPhase, outputTooLong, firstOf}
 
 -- a call: document 01's feed of P, close with a D or C, read of k bytes
 pub data Call (A : Type 0) : Type 0 where
@@ -33,12 +33,18 @@ pub record Transcript (A : Type 0) : Type 0 where
 abbrev pub freshTranscript : {A : Type 0} → Transcript A
 freshTranscript = record { absorbed = []; phase = absorbing; squeezed = 0 }
 
--- a function: its published output, the status of a finalize's argument (0 where it is taken), and the two limits
+-- a function: its published output, the status of a finalize's argument and of a piece of n bytes, each by itself (0 where it is
+-- taken), and the two limits
 pub record Rules (A : Type 0) : Type 0 where
   pub output : List ℕ → A → ℕ → List ℕ
   pub argument : A → ℕ
+  pub piece : ℕ → ℕ
   pub inputLimit : ℕ
   pub outputLimit : ℕ
+
+-- the same function, whose pieces have another status
+abbrev pub withPieces : {A : Type 0} → Rules A → (ℕ → ℕ) → Rules A
+withPieces U piece = record { output = U .output; argument = U .argument; piece = piece; inputLimit = U .inputLimit; outputLimit = U .outputLimit }
 
 -- a call's status, the bytes that it gives, and what it leaves: a transcript or a run
 pub record Reply (X : Type 0) : Type 0 where
@@ -59,7 +65,7 @@ lent (suc n) bytes old = old
 module _ {A : Type 0} (U : Rules A) where
   -- the status, by the phase and the totals
   abbrev pub statusOf : ℕ → ℕ → ℕ → Call A → ℕ
-  statusOf phase absorbed squeezed (absorb p) = cond (eqb phase 0) (cond (leb (absorbed + length p) (U .inputLimit)) done inputTooLong) wrongPhase
+  statusOf phase absorbed squeezed (absorb p) = cond (eqb phase 0) (firstOf (U .piece (length p)) (cond (leb (absorbed + length p) (U .inputLimit)) done inputTooLong)) wrongPhase
   statusOf phase absorbed squeezed (finalize a) = cond (eqb phase 0) (U .argument a) wrongPhase
   statusOf phase absorbed squeezed (squeeze k) = cond (eqb phase 1) (cond (leb (squeezed + k) (U .outputLimit)) done outputTooLong) wrongPhase
 

@@ -14,3 +14,5 @@ pub const UNREACHABLE: u8 = 5;
 pub const OUTPUT_TOO_LONG: u8 = 6;
 
 pub const BAD_LENGTH: u8 = 7;
+
+pub const EVENT_TOO_LONG: u8 = 8;

@@ -59,11 +59,11 @@ module _ (rate : ℕ) (r : Run) where
 
     pub absorb-2 : (p : List ℕ) → r .phase ≡ 0 → limit < r .absorbed + length p → status (absorb p) ≡ 2
     unfolding machine rules status
-    absorb-2 = answers.absorb-2 (rules rate) (machine rate) (seen r) e
+    absorb-2 p f g = answers.absorb-2 (rules rate) (machine rate) (seen r) e p f refl g
 
     pub absorb-0 : (p : List ℕ) → r .phase ≡ 0 → r .absorbed + length p ≤ limit → status (absorb p) ≡ 0
     unfolding machine rules status
-    absorb-0 = answers.absorb-0 (rules rate) (machine rate) (seen r) e
+    absorb-0 p f g = answers.absorb-0 (rules rate) (machine rate) (seen r) e p f refl g
 
     pub finalize-3 : (d : ℕ) → (r .phase ≡ 0 → ⊥) → status (finalize d) ≡ 3
     unfolding machine status

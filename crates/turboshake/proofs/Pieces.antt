@@ -47,11 +47,11 @@ module _ (rate : ℕ) (pos : 0 < rate) where
 
   pub absorb-piece : (m p : List ℕ) → length (m ++ p) ≤ limit → answerOf rate (absorbedRun m) (absorb p) ≡ record { status = 0; run = absorbedRun (m ++ p) }
   unfolding absorbedRun answerOf answered rules
-  absorb-piece m p l = ap answered (pieces.absorb-piece (rules rate) (machine rate) (laws rate pos) m p l)
+  absorb-piece m p l = ap answered (pieces.absorb-piece (rules rate) (machine rate) (laws rate pos) m p refl l)
 
   pub absorb-long : (m p : List ℕ) → length m ≤ limit → limit < length (m ++ p) → answerOf rate (absorbedRun m) (absorb p) ≡ record { status = 2; run = absorbedRun m }
   unfolding absorbedRun answerOf answered rules
-  absorb-long m p h l = ap answered (pieces.absorb-long (rules rate) (machine rate) (laws rate pos) m p h l)
+  absorb-long m p h l = ap answered (pieces.absorb-long (rules rate) (machine rate) (laws rate pos) m p refl h l)
 
   pub finalize-run : (m : List ℕ) (d : ℕ) → length m ≤ limit → domainStatus d ≡ 0 → answerOf rate (absorbedRun m) (finalize d) ≡ record { status = 0; run = finalizedRun m d }
   unfolding absorbedRun finalizedRun answerOf answered rules

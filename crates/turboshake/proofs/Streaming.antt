@@ -13,6 +13,7 @@ use Rattle.sponge.specs.Runs.{freshRun, perform, runOf}
 use Rattle.sponge.specs.Streaming.{history, Streaming, told}
 use Rattle.sponge.proofs.Corollaries as generic
 use Rattle.sponge.proofs.Corollaries.{Corollaries, history-held}
+use Rattle.sponge.proofs.Reachable.{Statuses}
 use Rattle.turboshake.specs.Transcript.{domainStatus, rules}
 use Rattle.turboshake.specs.Model.{machine, held, freshOf, answerOf, replyOf}
 use Rattle.turboshake.proofs.Laws.{positions, due, shape, shaped, laws, stays}
@@ -26,13 +27,13 @@ no-five rate d e = by (leb 1 d && leb d 0x7F) e
     by true e = omega arith
     by false e = omega arith
 
-one-taken : (rate : ℕ) → rules rate .argument 1 ≡ 0
+statuses : (rate : ℕ) → Statuses (rules rate)
 unfolding rules domainStatus
-one-taken rate = refl
+statuses rate = record { nothing-taken = refl; byte-taken = refl; piece-other = λ n e. omega arith; some = 1; some-taken = refl; argument-other = no-five rate }
 
 -- the list theorem at the published TurboSHAKE, calls in a row, refusals, and status 5 in both directions
 pub corollaries : (rate : ℕ) → 0 < rate → Corollaries (rules rate) (machine rate) positions
-corollaries rate pos = generic.corollaries (rules rate) (machine rate) (laws rate pos) (stays rate pos) positions (due rate) (shape rate) (shaped rate) 1 (one-taken rate) (no-five rate)
+corollaries rate pos = generic.corollaries (rules rate) (machine rate) (laws rate pos) (stays rate pos) positions (due rate) (shape rate) (shaped rate) (statuses rate)
 
 pub streaming : (rate : ℕ) → 0 < rate → (cs : List (Call ℕ)) → Streaming (rules rate) (machine rate) cs
 streaming rate pos = corollaries rate pos .streaming

@@ -15,6 +15,6 @@ limit = 4294967295
 unfoldable pub domainStatus : ℕ → ℕ
 domainStatus d = cond (leb 1 d && leb d 0x7F) done badDomain
 
--- the published function, the status of D, and the limits
+-- the published function, the status of D, and the limits; any piece is taken
 unfoldable pub rules : ℕ → Rules ℕ
-rules rate = record { output = turboshake rate; argument = domainStatus; inputLimit = limit; outputLimit = limit }
+rules rate = record { output = turboshake rate; argument = domainStatus; piece = λ n. done; inputLimit = limit; outputLimit = limit }

@@ -1,7 +1,7 @@
 use Prim.Native.Nat.{_≤_}
 use Rattle.kangarootwelve.specs.Tree.{absorbTree}
 use Rattle.kangarootwelve.specs.declared.Place.{Place}
-use mathlib.Core.Path.{_≡_, ap, sym, _∙_, subst}
+use mathlib.Core.Path.{_≡_, refl, ap, sym, _∙_, subst}
 use mathlib.Core.Bool.{true, false}
 use borrow.Author.Tests.{not-true, not-false}
 use native.Mathlib.Omega.{arith}
@@ -64,7 +64,7 @@ unfolding rules
 returns-3 c =
     let a = c .before .before .before .before .before .before .before .before .args in
     let r : Run = runWith (a .node .now) (a .leaf .now) (a .at) in
-    let e = absorb-2 (rules (a .rate) (a .chaining)) (machine (a .rate) (a .chaining)) (seen r) (passes (a .rate) (a .chaining) r true (was (c .before .before .before .before .before))) (a .piece .now) (c .before .before .before .if2 .left) (c .before .if3 .taken) in
+    let e = absorb-2 (rules (a .rate) (a .chaining)) (machine (a .rate) (a .chaining)) (seen r) (passes (a .rate) (a .chaining) r true (was (c .before .before .before .before .before))) (a .piece .now) (c .before .before .before .if2 .left) refl (c .before .if3 .taken) in
     ap (λ (m : Moved). answered m (a .node .now) (a .leaf .now)) (c .refused3 .ensures) ∙ refused-is (a .rate) (a .chaining) r (absorb (a .piece .now)) 1 e
 
 place-requires : tie.Need-place-requires
@@ -87,7 +87,7 @@ unfolding rules
 returns-4 c =
     let a = c .before .before .before .before .before .before .before .before .before .before .before .args in
     let r : Run = runWith (a .node .now) (a .leaf .now) (a .at) in
-    let e = absorb-0 (rules (a .rate) (a .chaining)) (machine (a .rate) (a .chaining)) (seen r) (passes (a .rate) (a .chaining) r true (was (c .before .before .before .before .before .before .before .before))) (a .piece .now) (c .before .before .before .before .before .before .if2 .left) (c .before .before .before .before .if3 .left) in
+    let e = absorb-0 (rules (a .rate) (a .chaining)) (machine (a .rate) (a .chaining)) (seen r) (passes (a .rate) (a .chaining) r true (was (c .before .before .before .before .before .before .before .before))) (a .piece .now) (c .before .before .before .before .before .before .if2 .left) refl (c .before .before .before .before .if3 .left) in
     absorb-answer (a .rate) (a .chaining) (a .node .now) (a .leaf .now) (a .at) (a .piece .now) (c .absorb .last .1 .1 .0) (c .absorb .last .1 .1 .1 .0) (c .absorb .result)
     (c .absorb .ensures .1 .1 ∙ ap (λ (p : Place). absorbTree (a .rate) (a .chaining) (treeOf (a .node .now) (a .leaf .now) p) (a .piece .now)) (c .before .place .ensures)) e
 

@@ -1,0 +1,82 @@
+-- A function whose pieces get a status of their own, over the machine of one whose pieces are all taken: what the one owes holds of the
+-- other, and what the other's calls do is told by the one's.
+-- Assumes nothing.
+use mathlib.Core.Path.{_≡_, refl}
+use mathlib.Core.List.{List, []}
+use mathlib.Core.Bool.{Bool, true, false, cond}
+use Prim.Native.Nat.{ℕ, suc, _≤_}
+use native.Mathlib.Nat.{add-zero}
+use native.Mathlib.Omega.{arith}
+use lib.ListN.{length}
+use lib.Dec.{eqb}
+use borrow.Author.Tests.{le-leb}
+use Rattle.sponge.specs.Status.{firstOf}
+use Rattle.sponge.specs.Transcript.{Call, Call.absorb, Call.finalize, Call.squeeze, Phase, Phase.absorbing, Phase.squeezing, Rules, withPieces}
+use Rattle.sponge.specs.Runs.{Run, Machine, perform}
+use Rattle.sponge.proofs.FirstStatus.{first-zero}
+use Rattle.sponge.proofs.Streaming.{Fits, Laws}
+use Rattle.sponge.proofs.Joining.{Stays}
+use Rattle.sponge.proofs.Reachable.{Shape}
+
+module _ {S A : Type 0} (U : Rules A) (M : Machine S A) (piece : ℕ → ℕ) where
+  -- ---- what is owed
+
+  fits : (f : List ℕ) (h : Phase A) (n : ℕ) → Fits (withPieces U piece) (record { absorbed = f; phase = h; squeezed = n }) → Fits U (record { absorbed = f; phase = h; squeezed = n })
+  fits f absorbing n t = record { input-fits = t .input-fits; output-fits = t .output-fits }
+  fits f (squeezing a) n t = record { input-fits = t .input-fits; output-fits = t .output-fits }
+
+  pub laws : Laws U M → Laws (withPieces U piece) M
+  laws L = record {
+    absorb-nothing = L .absorb-nothing;
+    absorb-append = L .absorb-append;
+    after-zero = L .after-zero;
+    after-add = L .after-add;
+    squeeze-add = L .squeeze-add;
+    squeeze-length = L .squeeze-length;
+    squeeze-output = L .squeeze-output;
+    run-reachable = λ t h. L .run-reachable t (fits (t .absorbed) (t .phase) (t .squeezed) h);
+  }
+
+  module _ (all-taken : (n : ℕ) → U .piece n ≡ 0) where
+    piece-zero : (o : Bool) (m s n : ℕ) → m ≡ 0 → cond o (firstOf s n) 3 ≡ 0 → cond o (firstOf m n) 3 ≡ 0
+    piece-zero true m s n z e = rw z (first-zero s n e)
+    piece-zero false m s n z e = absurd (omega arith)
+
+    pub stays : Stays U M → Stays (withPieces U piece) M
+    stays keep r (absorb p) h e = keep r (absorb p) h (piece-zero (eqb (r .phase) 0) (U .piece (length p)) (piece (length p)) _ (all-taken (length p)) e)
+    stays keep r (finalize a) h e = keep r (finalize a) h e
+    stays keep r (squeeze k) h e = keep r (squeeze k) h e
+
+  module _ (positions : S → List ℕ) (due : ℕ → ℕ → ℕ → List ℕ) (r : Run S) where
+    pub shape : Shape U positions due r → Shape (withPieces U piece) positions due r
+    shape t = record { phase-fits = t .phase-fits; absorbed-fits = t .absorbed-fits; squeezed-fits = t .squeezed-fits; positions-due = t .positions-due }
+
+    pub shaped : Shape (withPieces U piece) positions due r → Shape U positions due r
+    shaped t = record { phase-fits = t .phase-fits; absorbed-fits = t .absorbed-fits; squeezed-fits = t .squeezed-fits; positions-due = t .positions-due }
+
+  -- ---- what a call does
+
+  pub finalize-same : (r : Run S) (a : A) → perform U M r (finalize a) ≡ perform (withPieces U piece) M r (finalize a)
+  unfolding perform
+  finalize-same r a = refl
+
+  pub squeeze-same : (r : Run S) (k : ℕ) → perform U M r (squeeze k) ≡ perform (withPieces U piece) M r (squeeze k)
+  unfolding perform
+  squeeze-same r k = refl
+
+  pub absorb-same : (r : Run S) (p : List ℕ) → U .piece (length p) ≡ 0 → piece (length p) ≡ 0 → perform U M r (absorb p) ≡ perform (withPieces U piece) M r (absorb p)
+  unfolding perform
+  absorb-same r p e f = rw (e, f)
+
+  -- a piece that is refused by itself gets what nothing would get, and its own status where that is done; a run that 5 does not refuse
+  -- has absorbed no more than the limit
+  pub absorb-other : (r : Run S) (p : List ℕ) (n : ℕ) → (M .reachable r ≡ true → r .absorbed ≤ U .inputLimit) → U .piece 0 ≡ 0 → piece (length p) ≡ suc n
+      → perform (withPieces U piece) M r (absorb p) ≡ record { status = firstOf (perform U M r (absorb []) .status) (suc n); bytes = []; left = r }
+  unfolding perform
+  absorb-other r p n fits e f = by (M .reachable r) (eqb (r .phase) 0) refl refl
+    where
+      by : (t o : Bool) → M .reachable r ≡ t → eqb (r .phase) 0 ≡ o
+          → perform (withPieces U piece) M r (absorb p) ≡ record { status = firstOf (perform U M r (absorb []) .status) (suc n); bytes = []; left = r }
+      by true true h i = rw (h, i, f, e, add-zero, le-leb (r .absorbed) (U .inputLimit) (fits h))
+      by true false h i = rw (h, i)
+      by false o h i = rw h
