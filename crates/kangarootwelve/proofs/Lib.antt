@@ -3,6 +3,7 @@
 pub mod Published
 pub mod Laws
 pub mod Streaming
+pub mod Answers
 pub mod Merged
 pub mod Pieces
 mod Nodes

@@ -1,0 +1,96 @@
+// A day of events: a run of KT128 whose customization string is the station's name and whose message is the day's events joined in order.
+ghost use mathlib.Core.Path.{_≡_};
+ghost use lib.ListN.{length};
+ghost use Rattle.sponge.specs.Status.{eventTooLong, firstOf};
+ghost use Rattle.sponge.specs.Transcript.{Call};
+ghost use Rattle.kangarootwelve.specs.Model as kt;
+ghost use Rattle.journal.specs.Model.{freshDay, answerOf, outputOf};
+use kangarootwelve::Answer128;
+use kangarootwelve::Kt128;
+use kangarootwelve::Run;
+use sponge::status;
+
+// The most bytes of an event.
+pub const EVENT_LIMIT: u64 = 65535;
+
+// Document 01's day. Its run is KT128's: two states, the phase and the two totals, however long the day.
+pub struct Journal {
+    pub run: Run,
+}
+
+// What a call answers: the status, and the day, which is the one given where the status is not 0.
+pub struct Answer {
+    pub journal: Journal,
+    pub status: u8,
+}
+
+fn answer_of(answer: Answer128) -> Answer
+    ensures { λ r. ⌜ r ≡ record { journal = record { run = answer .hasher .run }; status = answer .status } ⌝ }
+{
+    let hasher = answer.hasher;
+    let run = hasher.run;
+    let journal = Journal { run };
+    Answer {
+        journal,
+        status: answer.status,
+    }
+}
+
+// The status of a long event on a run that answers `tried` to an empty one: the run's own refusals come first.
+fn long_status(tried: u8) -> u8
+    ensures { λ r. ⌜ r ≡ firstOf tried eventTooLong ⌝ }
+{
+    if tried != status::DONE {
+        return tried;
+    }
+    status::EVENT_TOO_LONG
+}
+
+// Refuses a long event. What the run says of itself is asked with an empty one, whose answer is not kept.
+fn refuse_event(given: Run, empty: &[u8]) -> Answer
+    ensures { λ r. ⌜ r ≡ record { journal = record { run = given }; status = firstOf (kt.answerOf 168 32 given (Call.absorb (now (empty .entry))) .status) eventTooLong } ⌝ }
+{
+    let tried = Kt128 { run: given }.absorb(empty);
+    let journal = Journal { run: given };
+    let status = long_status(tried.status);
+    Answer { journal, status }
+}
+
+impl Journal {
+    // A fresh day: no event, nothing squeezed.
+    pub fn fresh() -> Self
+        ensures { λ r. ⌜ r ≡ freshDay ⌝ }
+    {
+        let hasher = Kt128::fresh();
+        let run = hasher.run;
+        Journal { run }
+    }
+
+    // Appends an event; one that is too long is not taken at all.
+    pub fn append(self, event: &[u8]) -> Answer
+        ensures { λ r. ⌜ r ≡ answerOf self (Call.absorb (now (event .entry))) ⌝ }
+    {
+        let run = self.run;
+        if EVENT_LIMIT < event.len() as u64 {
+            return refuse_event(run, &event[0..0]);
+        }
+        answer_of(Kt128 { run }.absorb(event))
+    }
+
+    // Ends the day under the station's name.
+    pub fn finalize(self, name: &[u8]) -> Answer
+        ensures { λ r. ⌜ r ≡ answerOf self (Call.finalize (now (name .entry))) ⌝ }
+    {
+        let run = self.run;
+        answer_of(Kt128 { run }.finalize(name))
+    }
+
+    // Squeezes as many bytes of the day's digest as `out` holds.
+    pub fn squeeze(self, out: &mut [u8]) -> Answer
+        ensures { λ r. ⌜ r ≡ answerOf self (Call.squeeze (length (now (out .entry)))) ⌝ }
+        ensures { λ r. ⌜ now (out .exit) ≡ outputOf self (now (out .entry)) ⌝ }
+    {
+        let run = self.run;
+        answer_of(Kt128 { run }.squeeze(out))
+    }
+}

@@ -1,0 +1,34 @@
+-- The words of the contracts, for crates above: each is the generic run's, in the code's structs.
+-- Assumes nothing.
+use mathlib.Core.Path.{_≡_, refl}
+use mathlib.Core.List.{List}
+use mathlib.Core.Bool.{true}
+use Prim.Native.Nat.{ℕ, _≤_}
+use lib.ListN.{length}
+use Rattle.sponge.specs.Transcript.{Call, Call.squeeze, lent}
+use Rattle.sponge.specs.Runs as runs
+use Rattle.sponge.specs.Runs.{freshRun, perform}
+use Rattle.kangarootwelve.specs.Transcript.{rules}
+use Rattle.kangarootwelve.specs.Model.{Nodes, machine, seen, held, freshOf, answerOf, outputOf}
+use Rattle.kangarootwelve.specs.declared.Run.{Run}
+
+module _ (rate chaining : ℕ) where
+  pub fresh-is : freshOf rate chaining ≡ held (freshRun (rules rate chaining) (machine rate chaining))
+  unfolding freshOf
+  fresh-is = refl
+
+  pub answer-is : (r : Run) (c : Call (List ℕ))
+      → answerOf rate chaining r c ≡ record { status = perform (rules rate chaining) (machine rate chaining) (seen r) c .status; run = held (perform (rules rate chaining) (machine rate chaining) (seen r) c .left) }
+  unfolding answerOf
+  answer-is r c = refl
+
+  pub output-is : (r : Run) (out : List ℕ)
+      → outputOf rate chaining r out
+      ≡ lent (perform (rules rate chaining) (machine rate chaining) (seen r) (squeeze (length out)) .status) (perform (rules rate chaining) (machine rate chaining) (seen r) (squeeze (length out)) .bytes) out
+  unfolding outputOf
+  output-is r out = refl
+
+  -- any piece is taken by itself
+  pub piece-taken : (n : ℕ) → rules rate chaining .piece n ≡ 0
+  unfolding rules
+  piece-taken n = refl
