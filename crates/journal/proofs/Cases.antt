@@ -23,7 +23,7 @@ use Rattle.journal.specs.declared.Answer.{Answer}
 use Rattle.journal.proofs.Streaming.{shape}
 
 -- an event is taken up to its limit
-event-0 : (n : ℕ) → n ≤ eventLimit → eventStatus n ≡ 0
+pub event-0 : (n : ℕ) → n ≤ eventLimit → eventStatus n ≡ 0
 unfolding eventStatus
 event-0 n h = rw (le-leb n eventLimit h)
 

@@ -28,12 +28,12 @@ use Rattle.journal.specs.Transcript.{eventLimit, eventStatus, rules}
 use Rattle.journal.specs.Model.{dayOf, freshDay, answerOf, replyOf}
 use Rattle.journal.specs.declared.Journal.{Journal}
 
-rate-positive : 0 < 168
+pub rate-positive : 0 < 168
 rate-positive = omega arith
 
 -- ---- what a day owes is what KT128 owes
 
-laws : Laws rules (machine 168 32)
+pub laws : Laws rules (machine 168 32)
 unfolding rules
 laws = pieces.laws (kt.rules 168 32) (machine 168 32) eventStatus (kt-laws.laws 168 32 rate-positive)
 

@@ -2,14 +2,14 @@
 -- Assumes nothing.
 use mathlib.Core.Path.{_≡_, refl}
 use mathlib.Core.List.{List}
-use mathlib.Core.Bool.{true}
-use Prim.Native.Nat.{ℕ, _≤_}
+use Prim.Native.Nat.{ℕ}
 use lib.ListN.{length}
 use Rattle.sponge.specs.Transcript.{Call, Call.squeeze, lent}
-use Rattle.sponge.specs.Runs as runs
 use Rattle.sponge.specs.Runs.{freshRun, perform}
-use Rattle.kangarootwelve.specs.Transcript.{rules}
-use Rattle.kangarootwelve.specs.Model.{Nodes, machine, seen, held, freshOf, answerOf, outputOf}
+use Rattle.turboshake.specs.Transcript.{limit}
+use Rattle.kangarootwelve.specs.Published.{kt}
+use Rattle.kangarootwelve.specs.Transcript.{customizationStatus, rules}
+use Rattle.kangarootwelve.specs.Model.{machine, seen, held, freshOf, answerOf, outputOf}
 use Rattle.kangarootwelve.specs.declared.Run.{Run}
 
 module _ (rate chaining : ℕ) where
@@ -28,7 +28,19 @@ module _ (rate chaining : ℕ) where
   unfolding outputOf
   output-is r out = refl
 
-  -- any piece is taken by itself
+  -- what the rules say: any piece is taken by itself, and C by its length
   pub piece-taken : (n : ℕ) → rules rate chaining .piece n ≡ 0
   unfolding rules
   piece-taken n = refl
+
+  pub argument-is : (c : List ℕ) → rules rate chaining .argument c ≡ customizationStatus (length c)
+  unfolding rules
+  argument-is c = refl
+
+  pub limits-are : (rules rate chaining .inputLimit ≡ limit) × (rules rate chaining .outputLimit ≡ limit)
+  unfolding rules
+  limits-are = (refl, refl)
+
+  pub output-published : (m c : List ℕ) (n : ℕ) → rules rate chaining .output m c n ≡ kt rate chaining m c n
+  unfolding rules
+  output-published m c n = refl

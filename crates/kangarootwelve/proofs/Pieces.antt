@@ -1,8 +1,9 @@
 -- What a caller knows of calls in a row on the code's own structs: a message absorbed in whatever pieces, finalized and squeezed.
 -- Assumes nothing.
-use mathlib.Core.Path.{_≡_, refl, ap}
+use mathlib.Core.Path.{_≡_, refl, sym, ap}
 use mathlib.Core.List.{List, [], _++_}
 use Prim.Native.Nat.{ℕ, _≤_, _<_}
+use native.Mathlib.Omega.{arith}
 use borrow.Author.Tests.{le-leb, lt-leb}
 use lib.ListN.{length}
 use Rattle.sponge.specs.Transcript.{Call.absorb, Call.finalize, Call.squeeze, Reply, lent}
@@ -11,9 +12,10 @@ use Rattle.sponge.proofs.Pieces as pieces
 use Rattle.turboshake.specs.Transcript.{limit}
 use Rattle.kangarootwelve.specs.Published.{kt}
 use Rattle.kangarootwelve.specs.Transcript.{customizationLimit, customizationStatus, rules}
-use Rattle.kangarootwelve.specs.Model.{Nodes, machine, held, freshOf, Answer, answerOf, outputOf}
+use Rattle.kangarootwelve.specs.Model.{Nodes, machine, held, freshOf, Answer, answerOf, outputOf, hashStatus, hashOutput}
 use Rattle.kangarootwelve.specs.declared.Run.{Run}
 use Rattle.kangarootwelve.proofs.Laws.{laws}
+use Rattle.kangarootwelve.proofs.OneGo.{hash-0, hash-written}
 
 -- C is taken up to 65,535 bytes, and no longer one is
 pub customization-taken : (n : ℕ) → n ≤ customizationLimit → customizationStatus n ≡ 0
@@ -67,3 +69,10 @@ module _ (rate chaining : ℕ) (pos : 0 < rate) where
   squeeze-long m c out h l =
       let e = pieces.squeeze-long (rules rate chaining) (machine rate chaining) (laws rate chaining pos) m c (length out) h l in
       (ap (λ (y : Reply (runs.Run Nodes)). y .status) e, ap (λ (y : Reply (runs.Run Nodes)). lent (y .status) (y .bytes) out) e)
+
+  -- in one go, within the limits
+  pub hash-run : (m c out : List ℕ) → length m ≤ limit → length c ≤ customizationLimit → 0 < length out → length out ≤ limit
+      → (hashStatus (length m) (length c) (length out) ≡ 0) × (hashOutput rate chaining m c out ≡ kt rate chaining m c (length out))
+  hash-run m c out f g some h =
+      let e = hash-0 (length m) (length c) (length out) f g (λ z. omega arith) h in
+      (sym e, sym (hash-written rate chaining m c out (sym e)))

@@ -11,45 +11,69 @@ use lib.ListN.{length, replicate, length-append, length-replicate}
 use lib.Dec.{eqb, leb}
 use borrow.Author.Tests.{le-leb}
 use Rattle.sponge.specs.Status.{unreachable, firstOf}
-use Rattle.sponge.specs.Transcript.{Call, Call.absorb, Call.finalize, Call.squeeze, Phase, Phase.absorbing, Phase.squeezing, phaseNumber, Transcript, Rules, Reply, statusOf, transcribe}
+use Rattle.sponge.specs.Transcript.{Call, Call.absorb, Call.finalize, Call.squeeze, Phase, Phase.absorbing, Phase.squeezing, phaseNumber, Transcript, Rules, Reply, statusOf, outputOf, transcribe}
 use Rattle.sponge.specs.Runs.{Run, Machine, perform, runOf}
-use Rattle.sponge.specs.Streaming.{history, told, ran}
+use Rattle.sponge.specs.Streaming.{history, joined, told, ran}
 use Rattle.sponge.proofs.Joining.{perform-status, transcribe-done}
 use Rattle.sponge.proofs.Streaming.{Fits, Laws, streaming, told-fits}
 
--- ---- every transcript within the limits, finalized with what is taken, is told by a list of calls
+-- ---- every transcript within the limits, finalized with what is taken, is told by a list of calls, wherever its bytes are cut
 
 module _ {S A : Type 0} (U : Rules A) (M : Machine S A) where
   abbrev pub closing : Phase A → ℕ → List (Call A)
   closing absorbing n = []
   closing (squeezing a) n = finalize a ∷ squeeze n ∷ []
 
-  -- byte by byte, for a function may refuse a long piece
-  abbrev pub callsTo : List ℕ → Phase A → ℕ → List (Call A)
+  -- the pieces absorbed in order
+  abbrev pub callsTo : List (List ℕ) → Phase A → ℕ → List (Call A)
   callsTo [] h n = closing h n
-  callsTo (b ∷ f) h n = absorb (b ∷ []) ∷ callsTo f h n
+  callsTo (p ∷ ps) h n = absorb p ∷ callsTo ps h n
 
   abbrev pub Taken : Phase A → Type 0
   Taken absorbing = Unit {0}
   Taken (squeezing a) = U .argument a ≡ 0
 
-  -- from the transcript that has absorbed e
-  reach-from : U .piece 1 ≡ 0 → (e f : List ℕ) (h : Phase A) (n : ℕ) → Fits U (record { absorbed = e ++ f; phase = h; squeezed = n }) → Taken h
-      → history (transcribe U) (record { absorbed = e; phase = absorbing; squeezed = 0 }) (callsTo f h n) .left ≡ record { absorbed = e ++ f; phase = h; squeezed = n }
-  unfolding transcribe
-  reach-from one e [] absorbing zero l t = rw (append-nil e)
-  reach-from one e [] absorbing (suc n) l t = absurd (let k = l .output-fits in omega arith)
-  reach-from one e [] (squeezing a) n l t = rw t (rw (zero-add, le-leb n (U .outputLimit) (l .output-fits), append-nil e))
-  reach-from one e (b ∷ f) h n l t =
-      let k : length e + suc (length f) ≤ U .inputLimit = rw length-append at (l .input-fits) in
-      let s : statusOf U 0 (length e) 0 (absorb (b ∷ [])) ≡ 0 = rw (one, le-leb (length e + 1) (U .inputLimit) (omega arith)) in
-      ap (λ (y : Reply (Transcript A)). history (transcribe U) (y .left) (callsTo f h n) .left) (transcribe-done U (record { absorbed = e; phase = absorbing; squeezed = 0 }) (absorb (b ∷ [])) s)
-      ∙ reach-from one (e ++ b ∷ []) f h n (record { input-fits = rw (append-assoc e (b ∷ []) f) (l .input-fits); output-fits = l .output-fits }) t
-      ∙ ap (λ (s : List ℕ). record { absorbed = s; phase = h; squeezed = n }) (append-assoc e (b ∷ []) f)
+  abbrev pub AllTaken : List (List ℕ) → Type 0
+  AllTaken [] = Unit {0}
+  AllTaken (p ∷ ps) = (U .piece (length p) ≡ 0) × AllTaken ps
 
-  pub reach : U .piece 1 ≡ 0 → (f : List ℕ) (h : Phase A) (n : ℕ) → Fits U (record { absorbed = f; phase = h; squeezed = n }) → Taken h
-      → told U M (callsTo f h n) .left ≡ record { absorbed = f; phase = h; squeezed = n }
-  reach one f h n l t = reach-from one [] f h n l t
+  -- from the transcript that has absorbed e
+  reach-from : (e : List ℕ) (ps : List (List ℕ)) (h : Phase A) (n : ℕ) → Fits U (record { absorbed = e ++ joined ps; phase = h; squeezed = n }) → AllTaken ps → Taken h
+      → history (transcribe U) (record { absorbed = e; phase = absorbing; squeezed = 0 }) (callsTo ps h n) .left ≡ record { absorbed = e ++ joined ps; phase = h; squeezed = n }
+  unfolding transcribe
+  reach-from e [] absorbing zero l all t = rw (append-nil e)
+  reach-from e [] absorbing (suc n) l all t = absurd (let k = l .output-fits in omega arith)
+  reach-from e [] (squeezing a) n l all t = rw t (rw (zero-add, le-leb n (U .outputLimit) (l .output-fits), append-nil e))
+  reach-from e (p ∷ ps) h n l all t =
+      let k : length e + (length p + length (joined ps)) ≤ U .inputLimit = rw (length-append, length-append) at (l .input-fits) in
+      let s : statusOf U 0 (length e) 0 (absorb p) ≡ 0 = rw (all .0, le-leb (length e + length p) (U .inputLimit) (omega arith)) in
+      ap (λ (y : Reply (Transcript A)). history (transcribe U) (y .left) (callsTo ps h n) .left) (transcribe-done U (record { absorbed = e; phase = absorbing; squeezed = 0 }) (absorb p) s)
+      ∙ reach-from (e ++ p) ps h n (record { input-fits = rw (append-assoc e p (joined ps)) (l .input-fits); output-fits = l .output-fits }) (all .1) t
+      ∙ ap (λ (s : List ℕ). record { absorbed = s; phase = h; squeezed = n }) (append-assoc e p (joined ps))
+
+  pub reach : (ps : List (List ℕ)) (h : Phase A) (n : ℕ) → Fits U (record { absorbed = joined ps; phase = h; squeezed = n }) → AllTaken ps → Taken h
+      → told U M (callsTo ps h n) .left ≡ record { absorbed = joined ps; phase = h; squeezed = n }
+  reach ps h n l all t = reach-from [] ps h n l all t
+
+  -- wherever a message is cut, what is squeezed is the published output of the joined pieces
+  pub cut-anywhere : Laws U M → (ps : List (List ℕ)) (a : A) (n : ℕ) → AllTaken ps → U .argument a ≡ 0 → length (joined ps) ≤ U .inputLimit → n ≤ U .outputLimit
+      → joined (ran U M (callsTo ps (squeezing a) n) .bytes) ≡ U .output (joined ps) a n
+  cut-anywhere L ps a n all t f g =
+      streaming U M L (callsTo ps (squeezing a) n) .output
+      ∙ ap (λ (b : Transcript A). outputOf U b (b .squeezed)) (reach ps (squeezing a) n (record { input-fits = f; output-fits = g }) all t)
+
+-- byte by byte
+abbrev singles : List ℕ → List (List ℕ)
+singles [] = []
+singles (b ∷ f) = (b ∷ []) ∷ singles f
+
+joined-singles : (f : List ℕ) → joined (singles f) ≡ f
+joined-singles [] = refl
+joined-singles (b ∷ f) = ap (λ (l : List ℕ). b ∷ l) (joined-singles f)
+
+all-singles : {S A : Type 0} (U : Rules A) (M : Machine S A) → U .piece 1 ≡ 0 → (f : List ℕ) → AllTaken U M (singles f)
+all-singles U M e [] = tt
+all-singles U M e (b ∷ f) = (e, all-singles U M e f)
 
 -- what the statuses of pieces and arguments owe: nothing, and a byte alone, are taken, some argument is, and none is answered 5
 pub record Statuses {A : Type 0} (U : Rules A) : Type 0 where
@@ -83,12 +107,15 @@ module _ {S A : Type 0} (U : Rules A) (M : Machine S A) (L : Laws U M) (position
     reached-by : (h : Phase A) → Taken U M h → (s : S) (n k : ℕ) → M .reachable (record { state = s; phase = phaseNumber h; absorbed = n; squeezed = k }) ≡ true
         → Fits U (record { absorbed = replicate n 0; phase = h; squeezed = k }) → Reached U M positions (record { state = s; phase = phaseNumber h; absorbed = n; squeezed = k })
     reached-by h t s n k e fits =
-        let b : Transcript A = record { absorbed = replicate n 0; phase = h; squeezed = k } in
-        let is : ran U M (callsTo U M (replicate n 0) h k) .left ≡ runOf U M b =
-        streaming U M L (callsTo U M (replicate n 0) h k) .run ∙ ap (runOf U M) (reach U M (O .byte-taken) (replicate n 0) h k fits t) in
-        let l : length {A = ℕ} (replicate n 0) ≡ n = length-replicate n 0 in
+        let f : List ℕ = replicate n 0 in
+        let b : Transcript A = record { absorbed = f; phase = h; squeezed = k } in
+        let w : record { absorbed = joined (singles f); phase = h; squeezed = k } ≡ b = ap (λ (l : List ℕ). record { absorbed = l; phase = h; squeezed = k }) (joined-singles f) in
+        let is : ran U M (callsTo U M (singles f) h k) .left ≡ runOf U M b =
+        streaming U M L (callsTo U M (singles f) h k) .run
+        ∙ ap (runOf U M) (reach U M (singles f) h k (subst (Fits U) (sym w) fits) (all-singles U M (O .byte-taken) f) t ∙ w) in
+        let l : length f ≡ n = length-replicate n 0 in
         record {
-          calls = callsTo U M (replicate n 0) h k;
+          calls = callsTo U M (singles f) h k;
           phase-is = ap (λ (r : Run S). r .phase) is;
           absorbed-is = ap (λ (r : Run S). r .absorbed) is ∙ l;
           squeezed-is = ap (λ (r : Run S). r .squeezed) is;
