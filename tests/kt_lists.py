@@ -1,0 +1,210 @@
+"""Random lists of calls on KT runs, and what the tests of such runs share. The days' lists are these with events in place of pieces."""
+import random
+
+import reference
+from replay import ABSORBED, LANES, LEAF_LANES, LEAF_POSITION, PHASE, POSITION, SEED, SQUEEZED, Calls
+from transcript import ABSORBING, KT, Limits
+
+CHUNK = reference.CHUNK
+LIMIT = Limits.ABSORB_LIMIT
+BIG = (1 << 64) - 1
+# A message is the beginning of one of these: the states after its blocks are then worked out once, and kept.
+STREAMS = [random.Random(SEED + i).randbytes(210_000) for i in range(3)]
+CUSTOM = random.Random(SEED + 3).randbytes(65_536)
+
+
+def near(total, unit):
+    """A choice of lengths after which `total` is at, one before or one past a multiple of `unit`."""
+    return [max(0, -total % unit + more) for more in (-1, 0, 1)]
+
+
+def length(source, rate, total):
+    """A length for a piece: none, some, or one that ends at the edge of a block of the chunk in hand, or of the chunk."""
+    kind = source.randrange(100)
+    if kind < 8:
+        return 0
+    if kind < 30:
+        return source.randrange(1, 4)
+    if kind < 50:
+        return source.randrange(1, 601)
+    if kind < 65:
+        return source.choice(near(total % CHUNK, rate))
+    if kind < 95:
+        return source.choice(near(total, CHUNK)) + CHUNK * (source.randrange(6) == 0)
+    return source.randrange(1000, 10_000)
+
+
+def custom(source, total):
+    """A customization string that is taken: of a length of document 01, some, or one with which S ends around a chunk's end."""
+    kind = source.randrange(100)
+    if kind < 55:
+        return CUSTOM[: source.choice((0, 0, 1, 255, 256))]
+    if kind < 70:
+        return CUSTOM[: source.randrange(5000)]
+    if kind < 98:
+        return CUSTOM[: max(0, -total % CHUNK - source.randrange(-1, 6))]
+    return CUSTOM[:65_535]
+
+
+def asked(source, rate, total):
+    return source.choice((0, 1, 32, source.randrange(600), *near(total, rate)))
+
+
+def total(source, rate):
+    """A number of bytes absorbed or squeezed: around a chunk's or a block's end, around the limit, seldom one past it."""
+    chunk = CHUNK * source.choice((1, 2, 3, source.randrange(1, 524_288)))
+    block = rate * source.randrange(1, 5)
+    some = source.choice((0, 1, source.randrange(700)))
+    inside = (0, some, chunk - 1, chunk, chunk + 1, chunk + some, block, chunk + block, LIMIT, LIMIT - some)
+    return source.choice((*inside, LIMIT + 1 + some, BIG - some))
+
+
+def fit(calls):
+    """Writes the positions that go with the phase and the totals."""
+    for field, position in zip((POSITION, LEAF_POSITION), calls.run.positions_due()):
+        calls.set(field, position)
+
+
+def overwrite(source, calls):
+    """Writes the fields, often so that answer 5 lets them pass, and some lanes of both sponges."""
+    rate, run = calls.rate, calls.run
+    calls.set(PHASE, source.choice((0, 0, 0, 0, 0, 1, 1, 1, 1, 2, source.randrange(256))))
+    calls.set(ABSORBED, total(source, rate))
+    calls.set(SQUEEZED, 0 if run.phase == ABSORBING and source.randrange(8) else total(source, rate))
+    for field, right in zip((POSITION, LEAF_POSITION), run.positions_due()):
+        wrong = (right + 1, abs(right - 1), 0, rate, rate + 1, 200, BIG, source.getrandbits(64))
+        calls.set(field, right if source.randrange(9) else source.choice(wrong))
+    for lanes in (LANES, LEAF_LANES):
+        for lane in source.sample(range(25), source.choice((0, 1, 25))):
+            calls.set(lanes + lane, source.getrandbits(64))
+
+
+class KtLists:
+    """Lists from a fixed seed, one after another in `calls`."""
+
+    FUNCTIONS = 2, 3
+    LONGEST = 45_000  # of the messages: six chunks
+    KINDS = {"reached_list": 20, "overwritten_list": 30, "steps_list": 3, "other_list": 2, "one_go": 10}  # how often each comes
+
+    def __init__(self):
+        self.source, self.calls = random.Random(SEED), Calls()
+
+    def made(self, count):
+        """The lists with `count` calls or somewhat more."""
+        while self.calls.answers.total() < count:
+            getattr(self, self.source.choices(list(self.KINDS), self.KINDS.values())[0])()
+        return self.calls
+
+    def fresh(self):
+        self.calls.fresh(self.source.choice(self.FUNCTIONS))
+
+    def piece(self, stream):
+        """The next bytes of the stream."""
+        at = self.calls.run.absorbed
+        return stream[at : at + min(length(self.source, self.calls.rate, at), self.LONGEST - at)]
+
+    def one_go(self):
+        """In one go by KT; seldom by TurboSHAKE, which must leave no trace."""
+        source, function = self.source, self.source.choice(list(KT))
+        rate = KT[function]
+        if source.randrange(12) == 0:
+            self.calls.one_go(function - 2, STREAMS[0][: source.randrange(300)], 0x1F, 40)
+        message = STREAMS[source.randrange(3)][: source.choice((0, 1, CHUNK, 2 * CHUNK)) + length(source, rate, 0)]
+        last = CUSTOM if source.randrange(8) == 0 else custom(source, len(message))
+        self.calls.kt_one_go(function, message, last, 0 if source.randrange(6) == 0 else asked(source, rate, 0))
+
+    def absorbing(self, stream):
+        """One call, seldom one that the phase or the customization string refuses."""
+        kind = self.source.randrange(100)
+        if kind < 88:
+            self.calls.absorb(self.piece(stream))
+        elif kind < 94:
+            self.calls.squeeze(self.source.choice((0, 1, 32, self.source.randrange(400))))
+        elif kind < 96:
+            self.calls.finalize(CUSTOM)
+        else:
+            self.one_go()
+
+    def squeezing(self, stream):
+        source, calls = self.source, self.calls
+        kind = source.randrange(100)
+        if kind < 82:
+            calls.squeeze(asked(source, calls.rate, calls.run.squeezed))
+        elif kind < 90:
+            calls.absorb(stream[: source.choice((0, 1, source.randrange(400)))])
+        elif kind < 97:
+            calls.finalize(CUSTOM[: source.choice((0, 1, 300, 65_536))])
+        else:
+            self.one_go()
+
+    def many(self, step, stream, counts):
+        """Some calls, now and then a dump, and seldom a fresh run that is given the fields of the one in hand."""
+        for _ in range(self.source.choice(counts)):
+            step(stream)
+            if self.source.randrange(4) == 0:
+                self.calls.dump()
+            if self.source.randrange(60) == 0:
+                self.calls.rebuild(lambda fields: self.source.sample(fields, len(fields)))
+
+    def reached_list(self):
+        """A list from a fresh run, never overwritten."""
+        stream = self.source.choice(STREAMS)
+        self.fresh()
+        self.many(self.absorbing, stream, (0, 1, 2, 5, 10, 20))
+        if self.source.randrange(20):
+            self.calls.finalize(custom(self.source, self.calls.run.absorbed))
+            self.many(self.squeezing, stream, (0, 2, 4, 8))
+        self.calls.dump()
+
+    def steps_list(self):
+        """Byte by byte over the end of a chunk, with a dump after each."""
+        source, calls = self.source, self.calls
+        stream = source.choice(STREAMS)
+        self.fresh()
+        start = source.choice((1, 2, 3)) * CHUNK - 3
+        calls.absorb(stream[:start])
+        for at in range(start, start + source.randrange(2, 7)):
+            calls.absorb(stream[at : at + 1])
+            calls.dump()
+        calls.finalize(CUSTOM[: source.randrange(4)])
+        calls.dump()
+        calls.squeeze(32)
+
+    def other_list(self):
+        """A short list of the other functions: the fields of a run are those of its function."""
+        calls = self.calls
+        calls.fresh(self.source.choice((0, 1)))
+        calls.absorb(STREAMS[0][: self.source.randrange(400)])
+        calls.dump()
+        calls.finalize(0x1F)
+        calls.squeeze(40)
+        calls.dump()
+
+    def overwritten_call(self):
+        """A call on such a run: one that just reaches the limit, one that passes it, or any other."""
+        source, calls, run = self.source, self.calls, self.calls.run
+        reached = run.absorbed if run.phase == ABSORBING else run.squeezed
+        left = LIMIT - reached
+        size = length(source, calls.rate, reached) if run.phase == ABSORBING else asked(source, calls.rate, reached)
+        if 0 <= left < 1000 and source.randrange(2):
+            size = left + source.choice((0, 0, 1, 1, 2, 600))
+        kind = source.randrange(10)
+        if kind == 0:
+            calls.finalize(CUSTOM if source.randrange(4) == 0 else custom(source, run.absorbed))
+        elif kind < 6:
+            calls.absorb(STREAMS[0][:size])
+        else:
+            calls.squeeze(size)
+
+    def overwritten_list(self):
+        source, calls = self.source, self.calls
+        self.fresh()
+        if source.randrange(3) == 0:
+            calls.absorb(STREAMS[0][: length(source, calls.rate, 0)])
+        if source.randrange(3) == 0:
+            calls.finalize(custom(source, calls.run.absorbed))
+        for _ in range(source.randrange(1, 4)):
+            overwrite(source, calls)
+            for _ in range(source.randrange(2, 6)):
+                self.overwritten_call()
+        calls.dump()
