@@ -1,7 +1,7 @@
 #!/usr/bin/env python3
-"""The independent second program: Keccak-p[1600], TurboSHAKE and KangarooTwelve in Python, from the papers alone.
+"""The independent second program: Keccak-p[1600], TurboSHAKE, KangarooTwelve and HopMAC in Python, from the papers alone.
 
-Written from FIPS 202 (sections 3.2 to 3.4) and draft-irtf-cfrg-kangarootwelve-16 (sections 2 and 3), never from the Rattle
+Written from FIPS 202 (sections 3.2 to 3.4) and draft-irtf-cfrg-kangarootwelve-16 (sections 2 to 4), never from the Rattle
 sources. Both tables are computed from the standard's own rules. Standard library only.
 
   reference.py permutation     what the program `permutation` writes
@@ -142,6 +142,19 @@ def kt128(message, custom, length):
 
 def kt256(message, custom, length):
     return kangarootwelve(136, 64, message, custom, length)
+
+
+def hopmac(kt, inner, key, message, custom, length):
+    """Section 4: the key stands as message, a digest of `inner` bytes of the message as customization string."""
+    return kt(key, kt(message, custom, inner), length)
+
+
+def hopmac128(key, message, custom, length):
+    return hopmac(kt128, 32, key, message, custom, length)
+
+
+def hopmac256(key, message, custom, length):
+    return hopmac(kt256, 64, key, message, custom, length)
 
 
 def ptn(n):
