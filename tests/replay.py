@@ -20,9 +20,13 @@ BEFORE = b"\xa5"  # each byte of the buffer that a squeeze is given
 PHASE, ABSORBED, SQUEEZED, POSITION, LEAF_POSITION, LANES, LEAF_LANES = 0, 1, 2, 3, 4, 64, 96
 
 
+def counted(data, n=None):
+    """A number of four bytes, the length of what follows where `n` is not given, and the bytes."""
+    return (len(data) if n is None else n).to_bytes(4, "big") + data
+
+
 def record(op, payload=b"", n=None):
-    """One record. `n` is the payload's length where it is not given."""
-    return op.encode("latin-1") + (len(payload) if n is None else n).to_bytes(4, "big") + payload
+    return op.encode("latin-1") + counted(payload, n)
 
 
 def set_record(field, value):
@@ -30,13 +34,19 @@ def set_record(field, value):
 
 
 def one_go_record(function, domain, size, message):
-    return record("T", bytes([function, domain]) + size.to_bytes(4, "big") + message)
+    return record("T", bytes([function, domain]) + counted(message, size))
 
 
 def kt_record(function, custom, size, message, custom_size=None):
-    """One go of KT. `custom_size` is the length of `custom` where it is not given."""
-    inner = len(custom) if custom_size is None else custom_size
-    return record("K", bytes([function]) + size.to_bytes(4, "big") + inner.to_bytes(4, "big") + custom + message)
+    return record("K", bytes([function]) + counted(b"", size) + counted(custom, custom_size) + message)
+
+
+def hopmac_record(strength, key, custom, size, message, key_size=None, custom_size=None):
+    return record("H", bytes([strength]) + counted(b"", size) + counted(key, key_size) + counted(custom, custom_size) + message)
+
+
+def verify_record(strength, tag, key, custom, message, tag_size=None, key_size=None, custom_size=None):
+    return record("V", bytes([strength]) + counted(tag, tag_size) + counted(key, key_size) + counted(custom, custom_size) + message)
 
 
 def play(records):
@@ -97,15 +107,10 @@ class Calls:
         self.book, self.run = transcript.book_of(function), transcript.run_of(function)
         self.add(f"N {function}", record("N", bytes([function])), "fresh")
 
-    def call(self, what, data, answers, size=None):
-        """Adds a call with what the book and the run answer. After a refusal the run must be as it was, so a dump follows."""
-        if size is None:
-            wanted = [str(status) for status in answers]
-            status = answers[-1]
-        else:
-            wanted = [bytes_line(*answer, size) for answer in answers]
-            status = answers[-1][0]
+    def call(self, what, data, *wanted):
+        """Adds a call, whose line begins with its status. After a refusal the run must be as it was, so a dump follows."""
         self.add(what, data, *wanted)
+        status = int(wanted[-1][0])
         self.answers[what[0], status] += 1
         if status:
             self.dump()
@@ -114,28 +119,39 @@ class Calls:
         return [getattr(one, name)(argument) for one in (self.book, self.run) if one]
 
     def absorb(self, piece):
-        self.call(f"A of {len(piece)} bytes", record("A", piece), self.asked("absorb", piece))
+        self.call(f"A of {len(piece)} bytes", record("A", piece), *map(str, self.asked("absorb", piece)))
 
     def finalize(self, argument):
-        """With a domain byte, or with KT's customization string."""
+        """With a domain byte, with KT's customization string or with the name of a day's station."""
         if self.function in TURBOSHAKE:
             what, payload = f"F {argument:02x}", bytes([argument])
         else:
             what, payload = f"F with C of {len(argument)} bytes", argument
-        self.call(what, record("F", payload), self.asked("finalize", argument))
+        self.call(what, record("F", payload), *map(str, self.asked("finalize", argument)))
 
     def squeeze(self, size):
-        self.call(f"R of {size} bytes", record("R", n=size), self.asked("squeeze", size), size)
+        lines = [bytes_line(*answer, size) for answer in self.asked("squeeze", size)]
+        self.call(f"R of {size} bytes", record("R", n=size), *lines)
 
     def one_go(self, function, message, domain, size):
         answer = transcript.one_go(RATES[function], message, domain, size)
         what = f"T {function} {domain:02x} of {len(message)} bytes, {size} asked"
-        self.call(what, one_go_record(function, domain, size, message), [answer], size)
+        self.call(what, one_go_record(function, domain, size, message), bytes_line(*answer, size))
 
     def kt_one_go(self, function, message, custom, size):
         answer = transcript.kt_one_go(RATES[function], message, custom, size)
         what = f"K {function} of {len(message)} bytes with C of {len(custom)}, {size} asked"
-        self.call(what, kt_record(function, custom, size, message), [answer], size)
+        self.call(what, kt_record(function, custom, size, message), bytes_line(*answer, size))
+
+    def hopmac(self, strength, key, message, custom, size):
+        answer = transcript.hopmac_one_go(strength, key, message, custom, size)
+        what = f"H {strength} with a key of {len(key)} bytes, M of {len(message)} and C of {len(custom)}, {size} asked"
+        self.call(what, hopmac_record(strength, key, custom, size, message), bytes_line(*answer, size))
+
+    def verify(self, strength, key, message, custom, tag):
+        status, said = transcript.verify(strength, key, message, custom, tag)
+        what = f"V {strength} of a tag of {len(tag)} bytes with a key of {len(key)}, M of {len(message)} and C of {len(custom)}"
+        self.call(what, verify_record(strength, tag, key, custom, message), f"{status} {'yes' if said else 'no'}")
 
     def set(self, field, value):
         """Overwrites a field of the run in hand; the book has nothing to say of it from here on."""

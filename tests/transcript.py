@@ -1,17 +1,20 @@
 """What any list of calls must answer: document 01's book, and a run with its fields.
 
-`Transcript` and `KtTranscript` are the books: they get the arguments of each call alone, and say its status and its bytes. `Run` and
-`KtRun` have the fields of a run, so they also answer for one whose fields were overwritten, of which the book says nothing. Written from
-document 01 and the draft, never from the Rattle sources.
+`Transcript`, `KtTranscript` and `DayTranscript` are the books: they get the arguments of each call alone, and say its status and its
+bytes. `Run`, `KtRun` and `DayRun` have the fields of a run, so they also answer for one whose fields were overwritten, of which the book
+says nothing. The calls in one go follow them. Written from document 01 and the draft, never from the Rattle sources.
 """
 import reference
 
 TURBOSHAKE = {0: 168, 1: 136}  # the rates of functions 0 and 1: TurboSHAKE128 and TurboSHAKE256
 KT = {2: 168, 3: 136}  # those of 2 and 3: KT128 and KT256
-RATES = TURBOSHAKE | KT
+DAY = {4: 168}  # that of 4: the journal, which is KT128's
+RATES = TURBOSHAKE | KT | DAY
 CHAINING = {168: 32, 136: 64}  # the chaining length of each strength, by its rate
+HOPMAC = {0: reference.hopmac128, 1: reference.hopmac256}  # by the number of the strength
+LONGEST_TAG = 64  # of those that the tag check takes
 ABSORBING, FINALIZED = 0, 1
-DONE, BAD_DOMAIN, TOO_LONG, WRONG_PHASE, CUSTOM_TOO_LONG, NOT_REACHED, TOO_MUCH, NOTHING_ASKED = range(8)
+DONE, BAD_DOMAIN, TOO_LONG, WRONG_PHASE, CUSTOM_TOO_LONG, NOT_REACHED, TOO_MUCH, BAD_SIZE, EVENT_TOO_LONG = range(9)
 SINGLE_NODE, INTERMEDIATE_NODE, FINAL_NODE = 0x07, 0x0B, 0x06
 FIRST_CHUNK_END = b"\x03" + bytes(7)
 FINAL_NODE_END = b"\xff\xff"
@@ -28,10 +31,11 @@ def custom_status(custom):
 
 
 class Limits:
-    """The most bytes that a run takes and gives. A test may lower them to reach them."""
+    """The most bytes that a run takes and gives, and that an event has. A test may lower them to reach them."""
 
     ABSORB_LIMIT = 4_294_967_295
     SQUEEZE_LIMIT = 4_294_967_295
+    EVENT_LIMIT = 65_535
 
 
 class Transcript(Limits):
@@ -89,6 +93,15 @@ class KtTranscript(Transcript):
 
     def published(self, size):
         return reference.kangarootwelve(self.rate, CHAINING[self.rate], self.fed, self.argument, size)
+
+
+class DayTranscript(KtTranscript):
+    """The book of a day: events in place of pieces, and the station's name as customization string."""
+
+    def absorb(self, event):
+        if self.phase == ABSORBING and len(event) > self.EVENT_LIMIT:
+            return EVENT_TOO_LONG
+        return super().absorb(event)
 
 
 def position_after(rate, total):
@@ -268,12 +281,25 @@ class KtRun(Run):
         self.leaf = self.SPONGE(self.rate)
 
 
+class DayRun(KtRun):
+    """The fields of a day are those of a KT run."""
+
+    def absorb(self, event):
+        status = self.refusal(ABSORBING)
+        if status == DONE and len(event) > self.EVENT_LIMIT:
+            status = EVENT_TOO_LONG
+        return status or super().absorb(event)
+
+
+KINDS = dict.fromkeys(TURBOSHAKE, (Transcript, Run)) | dict.fromkeys(KT, (KtTranscript, KtRun)) | dict.fromkeys(DAY, (DayTranscript, DayRun))
+
+
 def book_of(function):
-    return (Transcript if function in TURBOSHAKE else KtTranscript)(RATES[function])
+    return KINDS[function][0](RATES[function])
 
 
 def run_of(function):
-    return (Run if function in TURBOSHAKE else KtRun)(RATES[function])
+    return KINDS[function][1](RATES[function])
 
 
 def lengths_status(message_size, size):
@@ -281,7 +307,7 @@ def lengths_status(message_size, size):
     if message_size > Limits.ABSORB_LIMIT:
         return TOO_LONG
     if size == 0:
-        return NOTHING_ASKED
+        return BAD_SIZE
     return TOO_MUCH if size > Limits.SQUEEZE_LIMIT else DONE
 
 
@@ -305,3 +331,24 @@ def one_go(rate, message, domain, size):
 def kt_one_go(rate, message, custom, size):
     status = kt_one_go_status(len(message), custom, size)
     return status, reference.kangarootwelve(rate, CHAINING[rate], message, custom, size) if status == DONE else None
+
+
+def hopmac_status(key_size, message_size, custom, size):
+    """The status of a HopMAC call in one go, in KT's order; the longer of key and message decides 2."""
+    return kt_one_go_status(max(key_size, message_size), custom, size)
+
+
+def verify_status(key_size, message_size, custom, tag_size):
+    """The status of the tag check: 2, 4, 7, in this order. A tag that is too long answers 7 as one of no bytes does."""
+    return hopmac_status(key_size, message_size, custom, tag_size if tag_size <= LONGEST_TAG else 0)
+
+
+def hopmac_one_go(strength, key, message, custom, size):
+    status = hopmac_status(len(key), len(message), custom, size)
+    return status, HOPMAC[strength](key, message, custom, size) if status == DONE else None
+
+
+def verify(strength, key, message, custom, tag):
+    """The status of the tag check, and whether it says yes."""
+    status = verify_status(len(key), len(message), custom, len(tag))
+    return status, status == DONE and HOPMAC[strength](key, message, custom, len(tag)) == tag
