@@ -1,0 +1,173 @@
+"""The program `replay` answers lists of calls on days as the transcript does, and overwritten days by the same rules.
+
+Needs target/bin/replay, which `rt check` and `rt ci` leave.
+"""
+import unittest
+
+import reference
+from kt_lists import BIG, CHUNK, CUSTOM, LIMIT, STREAMS, KtLists, fit
+from replay import ABSORBED, MOST, PHASE, POSITION, SQUEEZED, Calls, Held
+from transcript import DAY, FINALIZED, HOPMAC, KT, Limits
+
+CALLS = 8000  # of all ops together
+EVENT = Limits.EVENT_LIMIT
+(JOURNAL,) = DAY
+REFUSED = EVENT + 1, EVENT + 2  # the shortest events that are refused
+
+
+class DayLists(KtLists):
+    """The days' lists: longer events, and some that are too long wherever a call may stand."""
+
+    FUNCTIONS = (JOURNAL,)
+    LONGEST = 200_000
+    KINDS = KtLists.KINDS | {"kt_list": 2, "steps_list": 2}
+
+    def too_long(self, seldom):
+        """Once in so many times, an event that is too long."""
+        due = self.source.randrange(seldom) == 0
+        if due:
+            size = self.source.choice(REFUSED) if self.source.randrange(8) else self.source.randrange(EVENT + 1, MOST + 1)
+            self.calls.absorb((2 * STREAMS[0])[:size])
+        return due
+
+    def piece(self, stream):
+        left = self.LONGEST - self.calls.run.absorbed
+        if left < EVENT or self.source.randrange(30):
+            return super().piece(stream)
+        return stream[self.LONGEST - left :][: self.source.choice((EVENT - 1, EVENT, self.source.randrange(10_000, EVENT)))]
+
+    def absorbing(self, stream):
+        self.too_long(25) or super().absorbing(stream)
+
+    def squeezing(self, stream):
+        self.too_long(25) or super().squeezing(stream)
+
+    def overwritten_call(self):
+        self.too_long(12) or super().overwritten_call()
+
+    def kt_list(self):
+        """A short list on a KT run, which takes in one piece what no event may have."""
+        self.calls.fresh(self.source.choice(list(KT)))
+        self.calls.absorb(STREAMS[0][: EVENT + self.source.randrange(3)])
+        self.calls.finalize(b"abc")
+        self.calls.dump()
+
+    def one_go(self):
+        """By KT, or seldom by HopMAC."""
+        if self.source.randrange(4):
+            return super().one_go()
+        strength, key, message = self.source.randrange(2), STREAMS[1][:32], STREAMS[2][: self.source.randrange(200)]
+        self.calls.hopmac(strength, key, message, b"abc", 40)
+        self.calls.verify(strength, key, message, b"abc", HOPMAC[strength](key, message, b"abc", 16))
+
+
+class Days(Held):
+    def test_random_lists(self):
+        """Calls from a fixed seed, each number that a call here can answer among them."""
+        calls = DayLists().made(CALLS)
+        possible = {"A": (0, 2, 3, 5, 8), "F": (0, 3, 4, 5), "R": (0, 3, 5, 6)}
+        for op, statuses in possible.items():
+            for status in statuses:
+                self.assertGreater(calls.answers[op, status], 20, (op, status))
+        self.hold(calls)
+
+    def test_sizes_of_events(self):
+        """Around the longest event that is taken and far past it, on a fresh day and in the middle of a chunk."""
+        calls = Calls()
+        for before in (0, 1, CHUNK - 1, CHUNK, CHUNK + 100):
+            calls.fresh(JOURNAL)
+            calls.absorb(STREAMS[0][:before])
+            for size in (*REFUSED, 1 << 17, MOST):
+                calls.absorb(bytes(size))
+            for size in (0, 1, EVENT - 1, EVENT):
+                calls.absorb(STREAMS[0][calls.run.absorbed :][:size])
+                calls.dump()
+            calls.absorb(bytes(EVENT + 1))
+            calls.finalize(b"station")
+            calls.squeeze(32)
+        self.assertEqual((calls.answers["A", 0], calls.answers["A", 8]), (5 * 5, 5 * 5), "the test itself is wrong")
+        self.hold(calls)
+
+    def test_names(self):
+        """The name is asked for its length, 4, after the phase, and a refused one leaves the day open."""
+        calls = Calls()
+        for size in (0, 1, 19, 255, 256, CHUNK - 60, 65_534, 65_535):
+            calls.fresh(JOURNAL)
+            for event in (STREAMS[0][:40], b"", STREAMS[0][40:57]):
+                calls.absorb(event)
+            calls.finalize(CUSTOM)
+            calls.finalize(bytes(MOST))
+            calls.absorb(b"")
+            calls.finalize(CUSTOM[:size])
+            calls.finalize(CUSTOM)
+            calls.squeeze(40)
+        self.assertEqual((calls.answers["F", 0], calls.answers["F", 3], calls.answers["F", 4]), (8, 8, 16), "the test itself is wrong")
+        self.hold(calls)
+
+    def answered(self, calls, status, *sizes):
+        """Events of these lengths all get this answer."""
+        before = calls.answers["A", status]
+        for size in sizes:
+            calls.absorb(bytes(size))
+        self.assertEqual(calls.answers["A", status], before + len(sizes), "the test itself is wrong")
+
+    def test_8_wins_over_2(self):
+        """With so many bytes left that an event passes both limits, the event's own is asked first."""
+        calls = Calls()
+        for left in (0, 1, 100, CHUNK, EVENT - 1, EVENT, EVENT + 1):
+            calls.fresh(JOURNAL)
+            calls.set(ABSORBED, LIMIT - left)
+            fit(calls)
+            self.answered(calls, 8, *REFUSED, MOST)
+            if left < EVENT:
+                self.answered(calls, 2, left + 1, EVENT)
+            self.answered(calls, 0, 0, min(left, EVENT), 0)
+            self.answered(calls, 8, EVENT + 1)
+            self.answered(calls, 2, 1 if left <= EVENT else 2)
+        self.hold(calls)
+
+    def test_3_and_5_win_over_8(self):
+        """A day that is closed answers 3, one that no calls reach 5, however long the event is."""
+        calls = Calls()
+        calls.fresh(JOURNAL)
+        calls.absorb(STREAMS[0][: CHUNK + 5])
+        calls.finalize(b"station")
+        self.answered(calls, 3, 0, 1, EVENT, *REFUSED, MOST)
+        calls.squeeze(40)
+        self.answered(calls, 3, 0, EVENT, *REFUSED)
+        for field, wrong in ((PHASE, 2), (ABSORBED, LIMIT + 1), (SQUEEZED, LIMIT + 1), (POSITION, 169), (POSITION + 1, 1)):
+            for phase in (0, FINALIZED):
+                calls.fresh(JOURNAL)
+                calls.set(PHASE, phase)
+                calls.set(field, wrong)
+                self.answered(calls, 5, 0, 1, EVENT, *REFUSED)
+        for totals in ((LIMIT + 1, 0), (BIG, 0), (0, 1)):
+            calls.fresh(JOURNAL)
+            for field, value in zip((ABSORBED, SQUEEZED), totals):
+                calls.set(field, value)
+            fit(calls)
+            self.answered(calls, 5, 0, 1, EVENT, *REFUSED)
+        self.hold(calls)
+
+    def test_same_as_in_one_go(self):
+        """A day gives what KT128 in one go gives for the events joined, with the name as C; and so does a KT128 run fed the same."""
+        calls = Calls()
+        days = ((), (0,), (0, 0, 1), (40, 0, 17, 1), (CHUNK,), (CHUNK - 1, 1, 1), (100,) * 170, (9000, 0, 9000), (EVENT, EVENT, 0, 5))
+        for sizes in days:
+            joined = STREAMS[1][: sum(sizes)]
+            for name in (b"", b"Hanbeorit station 3", CUSTOM[: -(len(joined) + 3) % CHUNK]):
+                start = len(calls.expected)
+                for function in (JOURNAL, 2):
+                    calls.fresh(function)
+                    for at, size in enumerate(sizes):
+                        calls.absorb(joined[sum(sizes[:at]) :][:size])
+                    calls.finalize(name)
+                    calls.squeeze(200)
+                calls.kt_one_go(2, joined, name, 200)
+                lines = {line for _, what, line in calls.expected[start:] if what[0] in "RK"}
+                self.assertEqual(lines, {f"0 {reference.kt128(joined, name, 200).hex()}"}, "the test itself is wrong")
+        self.hold(calls)
+
+
+if __name__ == "__main__":
+    unittest.main()
