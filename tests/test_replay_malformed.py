@@ -4,9 +4,12 @@ Needs target/bin/replay, which `rt check` and `rt ci` leave.
 """
 import unittest
 
-from replay import LANES, LEAF_LANES, LEAF_POSITION, MOST, PHASE, POSITION, kt_record, one_go_record, play, record, set_record
+from replay import LANES, LEAF_LANES, LEAF_POSITION, MOST, PHASE, POSITION
+from replay import hopmac_record, kt_record, one_go_record, play, record, set_record, verify_record
 
 BIG = (1 << 64) - 1
+FAR = MOST + 1, 1 << 24, (1 << 32) - 1  # more than the buffers hold
+PAST = 9, MOST - 13, MOST, (1 << 31) + 3, (1 << 32) - 13, (1 << 32) - 4, *FAR  # more than the rest of a short payload
 
 
 class Malformed(unittest.TestCase):
@@ -28,25 +31,26 @@ class Malformed(unittest.TestCase):
     def test_cut_short(self):
         whole = [record("N", b"\1"), record("A", b"ab"), record("F", b"\x1f"), record("R", n=3), set_record(PHASE, 0), record("D")]
         whole += [one_go_record(0, 0x1F, 2, b"xyz"), kt_record(2, b"abc", 2, b"xyz"), record("A", bytes(MOST))]
-        for function in (0, 2):
+        whole += [hopmac_record(0, b"key", b"abc", 2, b"xyz"), verify_record(1, b"tag", b"key", b"abc", b"xyz")]
+        for function in (0, 2, 4):
             for data in whole:
                 for size in {*range(1, min(len(data), 20)), len(data) - 1}:
                     with self.subTest(op=data[:1], size=size):
                         self.refused([(record("N", bytes([function])), "fresh")], data[:size])
 
     def test_unknown_op(self):
-        for op in "\x00\n \xff09anftkZ":
+        for op in "\x00\n \xff09anftkhvZ":
             for n in (0, 1):
                 with self.subTest(op=op, n=n):
                     self.refused_in_a_list(record(op, bytes(n)))
 
     def test_too_long(self):
-        for n in (MOST + 1, 1 << 24, (1 << 32) - 1):
-            for op, function in (*((op, 0) for op in "NAFSDTK"), ("A", 2), ("F", 2), ("F", 3)):
+        for n in FAR:
+            for op, function in (*((op, 0) for op in "NAFSDTKHV"), ("A", 2), ("F", 2), ("F", 3), ("A", 4), ("F", 4)):
                 with self.subTest(op=op, n=n, function=function):
                     self.refused_in_a_list(record(op, bytes(MOST + 1), n=n), function)
-            self.refused_in_a_list(record("R", n=n))
-            self.refused_in_a_list(record("R", n=n), 2)
+            for function in (0, 2, 4):
+                self.refused_in_a_list(record("R", n=n), function)
 
     def test_inner_lengths(self):
         wrong = {"N": (0, 2), "F": (0, 2, 3), "S": (0, 1, 8, 10), "D": (1, 9), "T": range(6)}
@@ -54,7 +58,7 @@ class Malformed(unittest.TestCase):
             for size in sizes:
                 with self.subTest(op=op, size=size):
                     self.refused_in_a_list(record(op, bytes(size)))
-        for size in (MOST + 1, 1 << 24, (1 << 32) - 1):
+        for size in FAR:
             self.refused_in_a_list(one_go_record(0, 0x1F, size, b"abc"))
             self.refused_in_a_list(one_go_record(0, 0x80, size, b"abc"))
 
@@ -63,51 +67,88 @@ class Malformed(unittest.TestCase):
         for size in range(9):
             self.refused_in_a_list(record("K", (b"\2" + bytes(8))[:size]), 2)
         for function in (2, 3):
-            for size in (MOST + 1, 1 << 24, (1 << 32) - 1):
+            for size in FAR:
                 self.refused_in_a_list(kt_record(function, b"", size, b"abc"), 2)
                 self.refused_in_a_list(kt_record(function, bytes(65_536), size, b"abc"))
-            for custom_size in (4, 5, MOST - 8, MOST, MOST + 1, 1 << 24, (1 << 31) + 3, (1 << 32) - 1):
+            for custom_size in (4, 5, MOST - 8, MOST, (1 << 31) + 3, *FAR):
                 with self.subTest(function=function, custom_size=custom_size):
                     self.refused_in_a_list(kt_record(function, b"", 32, b"abc", custom_size), function)
 
+    def test_inner_lengths_of_hopmac(self):
+        """Too short for its three numbers, an output longer than the buffer, a key or a C longer than what is left."""
+        for size in range(13):
+            self.refused_in_a_list(record("H", bytes(size)))
+        for strength in (0, 1):
+            for size in FAR:
+                self.refused_in_a_list(hopmac_record(strength, b"key", b"ab", size, b"abc"))
+                self.refused_in_a_list(hopmac_record(strength, b"", bytes(65_536), size, b""), 4)
+            # the shortest of these keys leave some bytes, too few for the length of C
+            for size in (1, 2, 3, 4, *PAST):
+                with self.subTest(strength=strength, size=size):
+                    self.refused_in_a_list(hopmac_record(strength, b"", b"", 32, b"", key_size=size))
+                    self.refused_in_a_list(hopmac_record(strength, b"key", b"", 32, b"", custom_size=size), 2)
+
+    def test_inner_lengths_of_the_tag_check(self):
+        """Too short for its three numbers; a tag, a key or a C longer than what is left."""
+        for size in range(13):
+            self.refused_in_a_list(record("V", bytes(size)))
+        for strength in (0, 1):
+            # the shortest of these tags leave some bytes, too few for the lengths of key and C
+            for size in (*range(1, 9), *PAST):
+                with self.subTest(strength=strength, size=size):
+                    self.refused_in_a_list(verify_record(strength, b"", b"", b"", b"", tag_size=size))
+                    self.refused_in_a_list(verify_record(strength, b"tag", b"", b"", b"", key_size=size), 4)
+                    self.refused_in_a_list(verify_record(strength, b"tag", b"key", b"", b"", custom_size=size), 2)
+
+    def test_a_tag_that_is_too_long(self):
+        """It is no fault of the record: the library answers."""
+        for size in (65, 1000, MOST - 22):
+            self.refused([(verify_record(0, bytes(size), b"key", b"abc", b"xyz"), "7 no")], record("Z"))
+
     def test_unknown_function(self):
-        """4 to 255; and each of the two one-go calls with a function of the other."""
-        for function in range(4, 256):
+        """5 to 255; each of the two one-go calls with a function of the other or the journal's; strengths from 2 on."""
+        for function in range(5, 256):
             with self.subTest(function=function):
                 self.refused_in_a_list(record("N", bytes([function])))
-        for function in (2, 3, 4, 0x80, 0xFF):
+        for function in (2, 3, 4, 5, 0x80, 0xFF):
             self.refused_in_a_list(one_go_record(function, 0x1F, 32, b"abc"))
-        for function in (0, 1, 4, 0x80, 0xFF):
+        for function in (0, 1, 4, 5, 0x80, 0xFF):
             self.refused_in_a_list(kt_record(function, b"", 32, b"abc"))
+        for strength in range(2, 256):
+            with self.subTest(strength=strength):
+                self.refused_in_a_list(hopmac_record(strength, b"key", b"abc", 32, b"xyz"))
+                self.refused_in_a_list(verify_record(strength, bytes(32), b"key", b"abc", b"xyz"))
 
     def test_no_run(self):
-        one_go = (one_go_record(0, 0x1F, 0, b""), "7 ")
-        kt = (kt_record(3, b"", 0, b""), "7 ")
+        answered = [(one_go_record(0, 0x1F, 0, b""), "7 "), (kt_record(3, b"", 0, b""), "7 ")]
+        answered += [(hopmac_record(0, b"", b"", 0, b""), "7 "), (verify_record(1, b"", b"", b"", b""), "7 no")]
         for data in (record("A", b"ab"), record("A"), record("F", b"\x1f"), record("R", n=3), set_record(PHASE, 0), record("D")):
             with self.subTest(op=data[:1]):
                 self.refused([], data + record("N", b"\0"))
-                self.refused([one_go, kt], data + record("N", b"\0"))
+                self.refused(answered, data + record("N", b"\0"))
 
     def test_fields(self):
         """A phase is a byte; fields 4 to 63 and from 89 on are none of a TurboSHAKE run."""
         for value in (256, 257, 1 << 32, BIG):
-            for function in range(4):
+            for function in range(5):
                 self.refused_in_a_list(set_record(PHASE, value), function)
         for field in (*range(POSITION + 1, LANES), *range(LANES + 25, 256)):
             with self.subTest(field=field):
                 self.refused_in_a_list(set_record(field, 0))
 
     def test_fields_of_kt(self):
-        """5 to 63, 89 to 95 and from 121 on are none of a KT run."""
+        """5 to 63, 89 to 95 and from 121 on are none of a KT run, nor of a day."""
         for field in (*range(LEAF_POSITION + 1, LANES), *range(LANES + 25, LEAF_LANES), *range(LEAF_LANES + 25, 256)):
             with self.subTest(field=field):
                 self.refused_in_a_list(set_record(field, 0), 2 + field % 2)
+                self.refused_in_a_list(set_record(field, 0), 4)
 
     def test_fields_after_another_function(self):
         """The fields are those of the run in hand, whatever the one before had."""
-        leaf = [(record("N", b"\2"), "fresh"), (set_record(LEAF_POSITION, 7), "set"), (set_record(LEAF_LANES + 24, 7), "set")]
-        for field in (LEAF_POSITION, LEAF_LANES, LEAF_LANES + 24):
-            self.refused(leaf + [(record("N", b"\0"), "fresh")], set_record(field, 7) + record("N", b"\2"))
+        for function in (b"\2", b"\4"):
+            leaf = [(record("N", function), "fresh"), (set_record(LEAF_POSITION, 7), "set"), (set_record(LEAF_LANES + 24, 7), "set")]
+            for field in (LEAF_POSITION, LEAF_LANES, LEAF_LANES + 24):
+                self.refused(leaf + [(record("N", b"\0"), "fresh")], set_record(field, 7) + record("N", b"\2"))
 
 
 if __name__ == "__main__":
