@@ -128,5 +128,30 @@ class KangarooTwelve(unittest.TestCase):
         self.assertEqual(reference.kt128(b"", reference.ptn(1), 32).hex().upper(), digest)
 
 
+class HopMac(unittest.TestCase):
+    """The draft prints no vectors: the two calls are put together here."""
+
+    def test_nodes(self):
+        """Everything empty: the inner S is 00, the outer one the digest and length_encode of its 32 or 64 bytes."""
+        inner = reference.turboshake(168, b"\x00", 0x07, 32)
+        self.assertEqual(reference.hopmac128(b"", b"", b"", 40), reference.turboshake(168, inner + b"\x20\x01", 0x07, 40))
+        inner = reference.turboshake(136, b"\x00", 0x07, 64)
+        self.assertEqual(reference.hopmac256(b"", b"", b"", 40), reference.turboshake(136, inner + b"\x40\x01", 0x07, 40))
+
+    def test_two_calls(self):
+        """The message and C go into the inner call, the key and its digest into the outer one, through chunks too."""
+        for key, message, custom in ((b"key", b"message", b"custom"), (reference.ptn(8158), reference.ptn(8192), reference.ptn(300))):
+            tag = reference.kt128(key, reference.kt128(message, custom, 32), 70)
+            self.assertEqual(reference.hopmac128(key, message, custom, 70), tag)
+            tag = reference.kt256(key, reference.kt256(message, custom, 64), 70)
+            self.assertEqual(reference.hopmac256(key, message, custom, 70), tag)
+
+    def test_a_shorter_tag_is_the_beginning(self):
+        for function in (reference.hopmac128, reference.hopmac256):
+            whole = function(b"key", b"message", b"", 200)
+            for size in (1, 32, 64, 135, 136, 168, 169):
+                self.assertEqual(function(b"key", b"message", b"", size), whole[:size])
+
+
 if __name__ == "__main__":
     unittest.main()

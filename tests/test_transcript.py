@@ -4,11 +4,12 @@ import unittest
 
 import reference
 import transcript
-from transcript import CHAINING, KT, TURBOSHAKE, KtRun, KtTranscript, Run, Sponge, Transcript
+from transcript import CHAINING, DAY, KT, TURBOSHAKE, DayRun, DayTranscript, KtRun, KtTranscript, Run, Sponge, Transcript
 
 # Low enough that random lists of calls pass them.
 ABSORB_LIMIT, SQUEEZE_LIMIT = 900, 700
 KT_ABSORB_LIMIT = 26_000
+EVENT_LIMIT = 8300
 
 
 class ShortTranscript(Transcript):
@@ -25,6 +26,14 @@ class ShortKtTranscript(KtTranscript):
 
 class ShortKtRun(KtRun):
     ABSORB_LIMIT, SQUEEZE_LIMIT = KT_ABSORB_LIMIT, SQUEEZE_LIMIT
+
+
+class ShortDayTranscript(DayTranscript, ShortKtTranscript):
+    EVENT_LIMIT = EVENT_LIMIT
+
+
+class ShortDayRun(DayRun, ShortKtRun):
+    EVENT_LIMIT = EVENT_LIMIT
 
 
 class SmallSponge(Sponge):
@@ -64,6 +73,10 @@ class SmallKtRun(SmallRun, KtRun):
         self.chaining = 3
 
 
+class SmallDayRun(DayRun, SmallKtRun):
+    EVENT_LIMIT = 5
+
+
 class Agreement(unittest.TestCase):
     def both(self, book, run, name, argument):
         said, done = getattr(book, name)(argument), getattr(run, name)(argument)
@@ -87,17 +100,24 @@ class Agreement(unittest.TestCase):
 
     def test_random_kt_lists(self):
         """Through up to four chunks; a piece often ends at, one before or one past a chunk's end."""
+        self.chunked_lists(ShortKtTranscript, ShortKtRun, KT, (0, 2, 3))
+
+    def test_random_day_lists(self):
+        self.chunked_lists(ShortDayTranscript, ShortDayRun, DAY, (0, 2, 3, 8))
+
+    def chunked_lists(self, book_kind, run_kind, rates, absorbed):
+        """`absorbed` has the answers that pieces are to meet."""
         source = random.Random(4)
         seen = set()
-        for n in range(60):
-            book, run = ShortKtTranscript(KT[2 + n % 2]), ShortKtRun(KT[2 + n % 2])
+        for rate in 60 // len(rates) * list(rates.values()):
+            book, run = book_kind(rate), run_kind(rate)
             for _ in range(14):
                 name = source.choice(("absorb",) * 5 + ("finalize", "squeeze", "squeeze", "squeeze"))
                 size = source.choice((0, 1, 2, source.randrange(9000), max(0, -run.absorbed % 8192 + source.choice((-1, 0, 1)))))
                 custom = source.choice((0, 1, 255, 256, source.randrange(9000), max(0, -run.absorbed % 8192 - source.randrange(4)), 65_536))
                 arguments = {"absorb": reference.ptn(size), "squeeze": size % 500, "finalize": reference.ptn(custom)}
                 seen.add((name, self.both(book, run, name, arguments[name])))
-        self.assertEqual(seen, {("absorb", s) for s in (0, 2, 3)} | {("finalize", s) for s in (0, 3, 4)} | {("squeeze", s) for s in (0, 3, 6)})
+        self.assertEqual(seen, {("absorb", s) for s in absorbed} | {("finalize", s) for s in (0, 3, 4)} | {("squeeze", s) for s in (0, 3, 6)})
 
     def test_equal_books_leave_equal_runs(self):
         for kind, argument, size, steps in ((Run, 0x1F, 700, (1, 7, 168, 169, 700)), (KtRun, b"abc", 17_000, (97, 168, 8191, 8192, 17_000))):
@@ -168,10 +188,42 @@ class Reached(unittest.TestCase):
         self.assertEqual(len(reached), 21 + 21 * 18)
 
     def test_by_every_kt_call(self):
-        reached = self.reached_from_fresh(SmallKtRun, (b"", bytes(5)))
-        fields = ((p, a, s, node, leaf) for p in range(3) for a in range(23) for s in range(11) for node in range(6) for leaf in range(6))
-        self.assertEqual({key for key in fields if SmallKtRun().set(*key).is_reached()}, reached)
-        self.assertEqual(len(reached), 21 + 21 * 10)
+        """A day reaches what a KT run does, in more calls where an event is too long."""
+        for kind in (SmallKtRun, SmallDayRun):
+            reached = self.reached_from_fresh(kind, (b"", bytes(5)))
+            fields = ((p, a, s, node, leaf) for p in range(3) for a in range(23) for s in range(11) for node in range(6) for leaf in range(6))
+            self.assertEqual({key for key in fields if kind().set(*key).is_reached()}, reached)
+            self.assertEqual(len(reached), 21 + 21 * 10)
+
+
+class Day(unittest.TestCase):
+    def test_longest_event(self):
+        """65,535 bytes are taken, one more is not, and what was refused is no part of the day."""
+        for day in (transcript.book_of(4), transcript.run_of(4)):
+            self.assertEqual([day.absorb(reference.ptn(size)) for size in (65_536, 65_535, 65_537, 262_144, 0, 1)], [8, 0, 8, 8, 0, 0])
+            self.assertEqual(day.finalize(b"station"), 0)
+            joined = reference.ptn(65_535) + b"\x00"
+            self.assertEqual(day.squeeze(40), (0, reference.kt128(joined, b"station", 40)))
+
+    def test_order_of_the_refusals(self):
+        """5 (which only a run has), 3, 8, 2."""
+        for kind in (ShortDayTranscript, ShortDayRun):
+            day = kind(168)
+            sizes = (8300, 8300, 8300, 8301, 1100, 1101, 1100, 1, 8301, 0)
+            self.assertEqual([day.absorb(bytes(size)) for size in sizes], [0, 0, 0, 8, 0, 2, 2, 2, 8, 0])
+            self.assertEqual(day.finalize(bytes(65_536)), 4)
+            self.assertEqual(day.finalize(b""), 0)
+            self.assertEqual([day.absorb(bytes(size)) for size in (0, 8301, 26_001)], [3, 3, 3])
+        day.phase = 2
+        self.assertEqual([day.absorb(bytes(size)) for size in (0, 8301, 26_001)], [5, 5, 5])
+
+    def test_name(self):
+        """The station's name is the customization string."""
+        day = transcript.book_of(4)
+        for event in (b"one\n", b"", b"two\n"):
+            day.absorb(event)
+        self.assertEqual([day.finalize(bytes(65_536)), day.finalize(b"station"), day.finalize(b"station")], [4, 0, 3])
+        self.assertEqual(day.squeeze(32), (0, reference.kt128(b"one\ntwo\n", b"station", 32)))
 
 
 class OneGo(unittest.TestCase):
@@ -191,6 +243,29 @@ class OneGo(unittest.TestCase):
         self.assertEqual(transcript.kt_one_go_status(over - 1, bytes(65_535), 0), 7)
         self.assertEqual(transcript.kt_one_go_status(over - 1, bytes(65_535), over), 6)
         self.assertEqual(transcript.kt_one_go_status(over - 1, bytes(65_535), over - 1), 0)
+
+    def test_order_of_the_hopmac_refusals(self):
+        """The key and the message are each held to the limit of 2; a tag is never so long that 6 is due."""
+        over, long, taken = 4_294_967_296, bytes(65_536), bytes(65_535)
+        for sizes in ((over, 0), (0, over), (over, over)):
+            self.assertEqual([transcript.hopmac_status(*sizes, long, size) for size in (0, 1, over)], [2, 2, 2])
+            self.assertEqual([transcript.verify_status(*sizes, long, size) for size in (0, 1, 65)], [2, 2, 2])
+        self.assertEqual([transcript.hopmac_status(over - 1, over - 1, long, size) for size in (0, 1, over)], [4, 4, 4])
+        self.assertEqual([transcript.hopmac_status(over - 1, over - 1, taken, size) for size in (0, over, 1, over - 1)], [7, 6, 0, 0])
+        self.assertEqual([transcript.verify_status(over - 1, over - 1, long, size) for size in (0, 1, 64, 65)], [4, 4, 4, 4])
+        self.assertEqual([transcript.verify_status(over - 1, 0, taken, size) for size in (0, 1, 64, 65, over)], [7, 0, 0, 7, 7])
+
+    def test_tag_check(self):
+        for strength, function in enumerate((reference.hopmac128, reference.hopmac256)):
+            tag = function(b"key", b"message", b"abc", 65)
+            self.assertEqual(transcript.hopmac_one_go(strength, b"key", b"message", b"abc", 65), (0, tag))
+            said = [transcript.verify(strength, b"key", b"message", b"abc", tag[:size]) for size in (0, 1, 63, 64, 65)]
+            self.assertEqual(said, [(7, False), (0, True), (0, True), (0, True), (7, False)])
+            self.assertEqual(transcript.verify(strength, b"key", b"message", b"abc", tag[:31] + bytes([tag[31] ^ 1])), (0, False))
+            self.assertEqual(transcript.verify(strength, b"message", b"key", b"abc", tag[:32]), (0, False))
+            self.assertEqual(transcript.verify(1 - strength, b"key", b"message", b"abc", tag[:32]), (0, False))
+            self.assertEqual(transcript.verify(strength, b"key", b"message", bytes(65_536), tag[:32]), (4, False))
+            self.assertEqual(transcript.hopmac_one_go(strength, b"key", b"message", bytes(65_536), 32), (4, None))
 
     def test_same_as_the_run(self):
         for function, rate in KT.items():
