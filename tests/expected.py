@@ -3,6 +3,7 @@
 
   expected.py vectors     the draft's vectors as it prints them; nothing is worked out here
   expected.py edges       both sides of each edge of document 01, by the second program
+  expected.py day         the digest of a day, by the journal's book and by the second program in one go
 """
 import functools
 import sys
@@ -14,6 +15,9 @@ import vectors
 BEFORE = b"\xa5"  # each byte of the program's output buffer before the calls
 CHUNK = reference.CHUNK
 CUSTOMS = (0, 1, 255, 256, 65_535, 65_536)  # the last is refused
+STATION = b"Hanbeorit station 3"
+# of the day; the third is empty, the fourth what a sensor gave, without a line end
+EVENTS = (b"06:00 pump 3 on\n", b"06:02 level 3 at 41 cm\n", b"", reference.ptn(9000), b"22:00 pump 3 off\n")
 
 
 def vectors_output():
@@ -144,7 +148,21 @@ def edges_output():
     return "\n".join(lines) + "\n"
 
 
-OUTPUTS = {"vectors": vectors_output, "edges": edges_output}
+def day_output():
+    """Two lines: `shift` and the digest of a journal that took the events one by one; `clerk` and that of the day's bytes in one go.
+
+    Both are KT128 of the events joined, with the station's name as customization string: 32 bytes, in lower-case hex.
+    """
+    day = transcript.book_of(4)
+    for event in EVENTS:
+        day.absorb(event)
+    day.finalize(STATION)
+    _, shift = day.squeeze(32)
+    clerk = reference.kt128(b"".join(EVENTS), STATION, 32)
+    return f"shift {shift.hex()}\nclerk {clerk.hex()}\n"
+
+
+OUTPUTS = {"vectors": vectors_output, "edges": edges_output, "day": day_output}
 
 if __name__ == "__main__":
     if len(sys.argv) != 2 or sys.argv[1] not in OUTPUTS:
