@@ -16,10 +16,21 @@ CHUNK = reference.CHUNK
 MESSAGE = reference.ptn(CHUNK + 1)
 CUSTOM = b"abc"
 KT_DIGEST = reference.kt128(MESSAGE, CUSTOM, 37).hex()
+KEY = b"key"
+TAG = reference.hopmac128(KEY, MESSAGE, CUSTOM, 64)
+TAG_256 = reference.hopmac256(KEY, b"abc", b"", 64)
+EVENTS = (b"06:00 pump 3 on\n", b"", b"22:00 pump 3 off\n")
+DAY = b"".join(EVENTS)
+STATION = b"Hanbeorit station 3"
+DAY_DIGEST = reference.kt128(DAY, STATION, 37).hex()
+
+
+def counted(data, n=None):
+    return (len(data) if n is None else n).to_bytes(4, "big") + data
 
 
 def record(op, payload=b"", n=None):
-    return op.encode() + (len(payload) if n is None else n).to_bytes(4, "big") + payload
+    return op.encode() + counted(payload, n)
 
 
 def field(number, value):
@@ -27,11 +38,19 @@ def field(number, value):
 
 
 def one_go(function, domain, size, message):
-    return record("T", bytes([function, domain]) + size.to_bytes(4, "big") + message)
+    return record("T", bytes([function, domain]) + counted(message, size))
 
 
 def kt_one_go(function, custom, size, message):
-    return record("K", bytes([function]) + size.to_bytes(4, "big") + len(custom).to_bytes(4, "big") + custom + message)
+    return record("K", bytes([function]) + counted(b"", size) + counted(custom) + message)
+
+
+def hopmac(strength, key, custom, size, message):
+    return record("H", bytes([strength]) + counted(b"", size) + counted(key) + counted(custom) + message)
+
+
+def tag_check(strength, tag, key, custom, message):
+    return record("V", bytes([strength]) + counted(tag) + counted(key) + counted(custom) + message)
 
 
 def lanes_after(data):
@@ -114,6 +133,36 @@ SAMPLE = [
     # no run that was reached has this position of the leaf
     (field(4, 0), "set"),
     (record("A", b""), "5"),
+    # HopMAC, and tags: right, the beginning of a right one, wrong in one bit, for another message, of no byte, too long
+    (hopmac(0, KEY, CUSTOM, 64, MESSAGE), "0 " + TAG.hex()),
+    (hopmac(1, KEY, b"", 64, b"abc"), "0 " + TAG_256.hex()),
+    (hopmac(0, KEY, b"", 0, b"abc"), "7 "),
+    (hopmac(1, KEY, bytes(65_536), 4, b"abc"), "4 a5a5a5a5"),
+    (tag_check(0, TAG, KEY, CUSTOM, MESSAGE), "0 yes"),
+    (tag_check(0, TAG[:1], KEY, CUSTOM, MESSAGE), "0 yes"),
+    (tag_check(1, TAG_256[:32], KEY, b"", b"abc"), "0 yes"),
+    (tag_check(1, TAG_256[:31] + bytes([TAG_256[31] ^ 0x80]), KEY, b"", b"abc"), "0 no"),
+    (tag_check(1, TAG_256[:32], KEY, b"", b"abd"), "0 no"),
+    (tag_check(0, b"", KEY, b"", b"abc"), "7 no"),
+    (tag_check(1, TAG_256 + b"\0", KEY, b"", b"abc"), "7 no"),
+    # a day
+    (record("N", b"\4"), "fresh"),
+    *((record("A", event), "0") for event in EVENTS),
+    (record("D"), run_line(0, len(DAY), 0, len(DAY), 0, *lanes_after(DAY), *[0] * 25)),
+    (record("R", n=1), "3 a5"),
+    (record("F", STATION), "0"),
+    (record("A", b"d"), "3"),
+    (record("R", n=32), "0 " + DAY_DIGEST[:64]),
+    (record("R", n=5), "0 " + DAY_DIGEST[64:]),
+    (kt_one_go(2, STATION, 37, DAY), "0 " + DAY_DIGEST),
+    # at the limit of what is absorbed, an event that is too long as well
+    (record("N", b"\4"), "fresh"),
+    (field(1, LIMIT), "set"),
+    (field(3, (CHUNK + 8 + 524_286 * 32 - 1) % 168 + 1), "set"),
+    (field(4, (CHUNK - 1 - 1) % 168 + 1), "set"),
+    (record("A", bytes(65_536)), "8"),
+    (record("A", b"a"), "2"),
+    (record("A", b""), "0"),
     (record("Z"), "bad record"),
     # nothing is answered after that
     (record("N", b"\0"), None),
