@@ -6,8 +6,10 @@ pub mod Streaming
 pub mod Answers
 pub mod Merged
 pub mod Pieces
+pub mod Tags
 mod Nodes
 mod Encoding
 mod Cases
 mod OneGo
+mod Mac
 mod Examples

@@ -3,3 +3,4 @@ pub mod Transcript
 pub mod Tree
 pub mod Model
 pub mod Inside
+pub mod Mac

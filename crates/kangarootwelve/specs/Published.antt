@@ -1,4 +1,5 @@
--- KT128 and KT256: draft-irtf-cfrg-kangarootwelve-16, section 3, over the rate and the length of a chaining value.
+-- KT128, KT256, HopMAC128 and HopMAC256: draft-irtf-cfrg-kangarootwelve-16, sections 3 and 4, over the rate, the length of a chaining
+-- value and that of an inner digest.
 -- Assumes nothing.
 use mathlib.Core.List.{List, [], _∷_, _++_}
 use Prim.Native.Nat.{ℕ, zero, suc, _/_, _%_}
@@ -71,3 +72,15 @@ kt128 = kt 168 32
 
 abbrev pub kt256 : List ℕ → List ℕ → ℕ → List ℕ
 kt256 = kt 136 64
+
+-- ---- 4: HopMAC(Key, M, C, L) = KT(Key, KT(M, C, inner), L): the key stands as message, the inner digest as customization string
+
+unfoldable pub hopmac : ℕ → ℕ → ℕ → List ℕ → List ℕ → List ℕ → ℕ → List ℕ
+hopmac rate chaining inner key m c n = kt rate chaining key (kt rate chaining m c inner) n
+
+-- the two strengths: inner digests of 32 and 64 bytes
+abbrev pub hopmac128 : List ℕ → List ℕ → List ℕ → ℕ → List ℕ
+hopmac128 = hopmac 168 32 32
+
+abbrev pub hopmac256 : List ℕ → List ℕ → List ℕ → ℕ → List ℕ
+hopmac256 = hopmac 136 64 64

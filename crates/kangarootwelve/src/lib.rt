@@ -1,8 +1,11 @@
-// KT128 and KT256: draft-irtf-cfrg-kangarootwelve-16, section 3, in one go and in pieces.
+// KT128 and KT256: draft-irtf-cfrg-kangarootwelve-16, section 3, in one go and in pieces. HopMAC128 and HopMAC256, section 4, in one go,
+// and their tag check.
 //
-// A type for each strength; what they share stands in `calls`, `tree`, `one_go` and `encode`, over the rate and the length of a chaining value.
+// A type for each strength; what they share stands in `calls`, `tree`, `one_go`, `encode` and `hopmac`, over the rate, the length of a
+// chaining value and that of an inner digest.
 mod calls;
 mod encode;
+mod hopmac;
 mod one_go;
 mod tree;
 
@@ -10,11 +13,15 @@ ghost use mathlib.Core.Path.{_≡_};
 ghost use lib.ListN.{length};
 ghost use Rattle.sponge.specs.Transcript.{Call};
 ghost use Rattle.kangarootwelve.specs.Model.{freshOf, answer128, answer256, outputOf, hashStatus, hashOutput};
+ghost use Rattle.kangarootwelve.specs.Mac.{macStatus, macOutput, verdictOf};
 use turboshake::TurboShake128;
 use turboshake::TurboShake256;
 
 // The most bytes of a customization string.
 pub const CUSTOMIZATION_LIMIT: u64 = 65535;
+
+// The most bytes of a presented tag.
+pub const TAG_LIMIT: u64 = 64;
 
 // A sponge's state: document 01's 25 lanes and place within the block.
 pub struct State {
@@ -74,6 +81,18 @@ pub struct Kt256 {
 pub struct Answer256 {
     pub hasher: Kt256,
     pub status: u8,
+}
+
+// HopMAC128: the draft's section 4.
+pub struct HopMac128 {}
+
+// HopMAC256.
+pub struct HopMac256 {}
+
+// What the tag check answers: the status, and whether the presented tag is right, document 01's yes and no.
+pub struct Verdict {
+    pub status: u8,
+    pub valid: bool,
 }
 
 impl Kt128 {
@@ -253,5 +272,77 @@ impl Kt256 {
         ensures { λ r. ⌜ now (out .exit) ≡ hashOutput 136 64 (now (message .entry)) (now (customization .entry)) (now (out .entry)) ⌝ }
     {
         one_go::hash(Self::RATE, Self::CHAINING, message, customization, out)
+    }
+}
+
+impl HopMac128 {
+    // The bytes of the inner digest.
+    pub const INNER: usize = 32;
+
+    // The tag of a message and a customization string under the key: as many bytes as `out` holds.
+    pub fn tag(key: &[u8], message: &[u8], customization: &[u8], out: &mut [u8]) -> u8
+        ensures { λ r. ⌜ r ≡ macStatus (length (now (key .entry))) (length (now (message .entry))) (length (now (customization .entry))) (length (now (out .entry))) ⌝ }
+        ensures { λ r. ⌜ now (out .exit) ≡ macOutput 168 32 32 (now (key .entry)) (now (message .entry)) (now (customization .entry)) (now (out .entry)) ⌝ }
+    {
+        hopmac::tag(
+            Kt128::RATE,
+            Kt128::CHAINING,
+            Self::INNER,
+            key,
+            message,
+            customization,
+            out,
+        )
+    }
+
+    // Whether the presented tag, of 1 to 64 bytes, is that of the message and the customization string under the key.
+    pub fn verify(key: &[u8], message: &[u8], customization: &[u8], presented: &[u8]) -> Verdict
+        ensures { λ r. ⌜ r ≡ verdictOf 168 32 32 (now (key .entry)) (now (message .entry)) (now (customization .entry)) (now (presented .entry)) ⌝ }
+    {
+        hopmac::verify(
+            Kt128::RATE,
+            Kt128::CHAINING,
+            Self::INNER,
+            key,
+            message,
+            customization,
+            presented,
+        )
+    }
+}
+
+impl HopMac256 {
+    // The bytes of the inner digest.
+    pub const INNER: usize = 64;
+
+    // The tag of a message and a customization string under the key: as many bytes as `out` holds.
+    pub fn tag(key: &[u8], message: &[u8], customization: &[u8], out: &mut [u8]) -> u8
+        ensures { λ r. ⌜ r ≡ macStatus (length (now (key .entry))) (length (now (message .entry))) (length (now (customization .entry))) (length (now (out .entry))) ⌝ }
+        ensures { λ r. ⌜ now (out .exit) ≡ macOutput 136 64 64 (now (key .entry)) (now (message .entry)) (now (customization .entry)) (now (out .entry)) ⌝ }
+    {
+        hopmac::tag(
+            Kt256::RATE,
+            Kt256::CHAINING,
+            Self::INNER,
+            key,
+            message,
+            customization,
+            out,
+        )
+    }
+
+    // Whether the presented tag, of 1 to 64 bytes, is that of the message and the customization string under the key.
+    pub fn verify(key: &[u8], message: &[u8], customization: &[u8], presented: &[u8]) -> Verdict
+        ensures { λ r. ⌜ r ≡ verdictOf 136 64 64 (now (key .entry)) (now (message .entry)) (now (customization .entry)) (now (presented .entry)) ⌝ }
+    {
+        hopmac::verify(
+            Kt256::RATE,
+            Kt256::CHAINING,
+            Self::INNER,
+            key,
+            message,
+            customization,
+            presented,
+        )
     }
 }

@@ -15,7 +15,7 @@ use crate::tree;
 use sponge::status;
 use turboshake::LIMIT;
 
-fn hash_status(message: u64, customization: u64, asked: u64) -> u8
+pub(crate) fn hash_status(message: u64, customization: u64, asked: u64) -> u8
     ensures { λ r. ⌜ r ≡ hashStatus message customization asked ⌝ }
 {
     if LIMIT < message {
