@@ -89,10 +89,10 @@ fn check_status(key: u64, message: u64, customization: u64, presented: u64) -> u
     if presented == 0 {
         return status::BAD_LENGTH;
     }
-    if TAG_LIMIT < presented {
-        return status::BAD_LENGTH;
+    if presented <= TAG_LIMIT {
+        return status::DONE;
     }
-    status::DONE
+    status::BAD_LENGTH
 }
 
 // The difference gathered: 0 exactly where it was 0 and the two bytes are equal.

@@ -17,10 +17,10 @@ returns-4 : tie.Need-returns-4
 returns-4 c = let a = c .before .before .before .before .args in check-empty (a .key) (a .message) (a .customization) (a .presented) (c .before .before .before .if1 .left) (c .before .before .if2 .left) (c .before .if3 .left) (c .if4 .taken)
 
 returns-5 : tie.Need-returns-5
-returns-5 c = let a = c .before .before .before .before .before .args in check-long (a .key) (a .message) (a .customization) (a .presented) (c .before .before .before .before .if1 .left) (c .before .before .before .if2 .left) (c .before .before .if3 .left) (c .before .if4 .left) (c .if5 .taken)
+returns-5 c = let a = c .before .before .before .before .before .args in check-0 (a .key) (a .message) (a .customization) (a .presented) (c .before .before .before .before .if1 .left) (c .before .before .before .if2 .left) (c .before .before .if3 .left) (c .before .if4 .left) (c .if5 .taken)
 
 returns-6 : tie.Need-returns-6
-returns-6 c = let a = c .before .before .before .before .before .args in check-0 (a .key) (a .message) (a .customization) (a .presented) (c .before .before .before .before .if1 .left) (c .before .before .before .if2 .left) (c .before .before .if3 .left) (c .before .if4 .left) (c .if5 .left)
+returns-6 c = let a = c .before .before .before .before .before .args in check-long (a .key) (a .message) (a .customization) (a .presented) (c .before .before .before .before .if1 .left) (c .before .before .before .if2 .left) (c .before .before .if3 .left) (c .before .if4 .left) (c .if5 .left)
 
 pub check-status-spec : {M : Type 1} → statement M
 check-status-spec = tie.close (tie.spec returns returns-2 returns-3 returns-4 returns-5 returns-6)
