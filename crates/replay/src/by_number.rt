@@ -6,6 +6,7 @@ use functions::kt::KtFunction;
 pub enum Chosen {
     TurboShake(Function),
     Kt(KtFunction),
+    Journal,
     Nothing,
 }
 
@@ -15,6 +16,7 @@ pub fn function_of(number: u8) -> Chosen {
         1 => Chosen::TurboShake(Function::TurboShake256),
         2 => Chosen::Kt(KtFunction::Kt128),
         3 => Chosen::Kt(KtFunction::Kt256),
+        4 => Chosen::Journal,
         _ => Chosen::Nothing,
     }
 }

@@ -1,4 +1,4 @@
-// The records for a run of KT, which is in hand.
+// The records for a run of KT, which is in hand; and what a day's run shares with one.
 ghost use Prim.Native.Nat.{_+_, _*_, _≤_};
 ghost use lib.ListN.{length};
 use crate::field;
@@ -18,12 +18,12 @@ fn with_run(session: Session, run: Run) -> Session {
 }
 
 // The run that a call handed back is in hand, and its line was written or not.
-fn with_answer(session: Session, answer: KtAnswer, is_written: bool) -> Session {
+pub fn with_answer(session: Session, answer: KtAnswer, is_written: bool) -> Session {
     let run = answer.run;
     session::after_line(with_run(session, run), is_written)
 }
 
-fn answered(session: Session, answer: KtAnswer) -> Session {
+pub fn answered(session: Session, answer: KtAnswer) -> Session {
     with_answer(session, answer, line::write_status(answer.status))
 }
 
@@ -53,6 +53,17 @@ fn dump(session: Session, payload: &[u8], text: &mut [u8]) -> Session
     session::after_line(session, line::write_kt_run(run, text))
 }
 
+// The records that do no call.
+pub fn answer_fields(session: Session, op: u8, payload: &[u8], text: &mut [u8]) -> Session
+    requires { ⌜ 921 ≤ length (now text) ⌝ }
+{
+    match op {
+        b'S' => set(session, payload),
+        b'D' => dump(session, payload, text),
+        _ => session::bad_record(session),
+    }
+}
+
 pub fn answer(
     session: Session,
     function: KtFunction,
@@ -66,9 +77,7 @@ pub fn answer(
     match op {
         b'A' => answered(session, functions::kt::absorb(function, given, payload)),
         b'F' => answered(session, functions::kt::finalize(function, given, payload)),
-        b'S' => set(session, payload),
-        b'D' => dump(session, payload, text),
-        _ => session::bad_record(session),
+        _ => answer_fields(session, op, payload, text),
     }
 }
 

@@ -5,8 +5,9 @@
 // of bytes wanted, and they go into a buffer that holds A5 in every byte.
 //
 //   N  1 byte function                                          a fresh run in hand                  fresh
-//   A  the piece                                                absorb                               status
-//   F  1 byte domain byte, or KT's customization string         finalize                             status
+//   A  the piece, or the event                                  absorb, or append                    status
+//   F  1 byte domain byte, KT's customization string, or the    finalize                             status
+//      station's name
 //   R                                                           squeeze                              status, the buffer
 //   S  1 byte field, 8 bytes value                              writes a field of the run in hand    set
 //   D                                                           no call                              the run in hand
@@ -14,11 +15,12 @@
 //   K  1 byte function, 4 bytes L, 4 bytes length of the        L bytes of KT in one go              as R
 //      customization string, that string, message
 //
-// The functions are 0 TurboSHAKE128, 1 TurboSHAKE256, 2 KT128, 3 KT256.
+// The functions are 0 TurboSHAKE128, 1 TurboSHAKE256, 2 KT128, 3 KT256, 4 the journal, whose run is a day.
 //
 // The input's end before a record ends the program. Any other record, or one that does not fit: `bad record`, and the end.
 mod by_number;
 mod field;
+mod journal_run;
 mod kt_run;
 mod line;
 mod number;
@@ -42,6 +44,7 @@ fn answer_run(session: Session, op: u8, payload: &[u8], text: &mut [u8]) -> Sess
             turboshake_run::answer(session, function, op, payload, text)
         }
         Chosen::Kt(function) => kt_run::answer(session, function, op, payload, text),
+        Chosen::Journal => journal_run::answer(session, op, payload, text),
         Chosen::Nothing => session::bad_record(session),
     }
 }
@@ -54,6 +57,7 @@ fn answer_squeeze(session: Session, out: &mut [u8], text: &mut [u8]) -> Session
     match chosen {
         Chosen::TurboShake(function) => turboshake_run::squeeze(session, function, out, text),
         Chosen::Kt(function) => kt_run::squeeze(session, function, out, text),
+        Chosen::Journal => journal_run::squeeze(session, out, text),
         Chosen::Nothing => session::bad_record(session),
     }
 }

@@ -3,13 +3,14 @@ use crate::by_number;
 use crate::by_number::Chosen;
 use functions::Function;
 use functions::kt::KtFunction;
+use journal::Journal;
 use libc::STDOUT_FILENO;
 
 // The most bytes of a payload, and of an output.
 pub const MOST: u64 = 262144;
 
-// The function of the run in hand, where there is one: the run of its kind is in hand, the other is not used. And whether a further
-// record is read.
+// The function of the run in hand, where there is one: the run of its kind is in hand, the other is not used; a day's run is one of
+// KT. And whether a further record is read.
 pub struct Session {
     pub is_going: bool,
     pub chosen: Chosen,
@@ -57,13 +58,12 @@ fn fresh_turboshake(session: Session, function: Function) -> Session {
     }
 }
 
-fn fresh_kt(session: Session, function: KtFunction) -> Session {
+fn fresh_kt(session: Session, chosen: Chosen, kt_run: kangarootwelve::Run) -> Session {
     let run = session.run;
-    let kt_run = functions::kt::fresh(function);
     let is_written = io::write_all(STDOUT_FILENO, b"fresh\n");
     Session {
         is_going: is_written,
-        chosen: Chosen::Kt(function),
+        chosen,
         run,
         kt_run,
     }
@@ -75,7 +75,14 @@ pub fn fresh(session: Session, payload: &[u8]) -> Session {
     }
     match by_number::function_of(payload[0]) {
         Chosen::TurboShake(function) => fresh_turboshake(session, function),
-        Chosen::Kt(function) => fresh_kt(session, function),
+        Chosen::Kt(function) => {
+            fresh_kt(
+                session,
+                Chosen::Kt(function),
+                functions::kt::fresh(function),
+            )
+        }
+        Chosen::Journal => fresh_kt(session, Chosen::Journal, Journal::fresh().run),
         Chosen::Nothing => bad_record(session),
     }
 }
