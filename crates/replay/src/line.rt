@@ -121,3 +121,14 @@ pub fn write_output(status: u8, out: &[u8], text: &mut [u8]) -> bool
     io::print_decimal(STDOUT_FILENO, status as u64)
         && io::write_all(STDOUT_FILENO, &text[0..end + 1])
 }
+
+// Writes the status, a space and `yes` or `no`.
+pub fn write_verdict(status: u8, valid: bool) -> bool {
+    if !io::print_decimal(STDOUT_FILENO, status as u64) {
+        return false;
+    }
+    if valid {
+        return io::write_all(STDOUT_FILENO, b" yes\n");
+    }
+    io::write_all(STDOUT_FILENO, b" no\n")
+}

@@ -14,12 +14,19 @@
 //   T  1 byte function, 1 byte domain byte, 4 bytes L, message  L bytes of TurboSHAKE in one go      as R
 //   K  1 byte function, 4 bytes L, 4 bytes length of the        L bytes of KT in one go              as R
 //      customization string, that string, message
+//   H  1 byte strength, 4 bytes L, 4 bytes length of the key,   L bytes of HopMAC in one go          as R
+//      the key, 4 bytes length of the customization string,
+//      that string, message
+//   V  1 byte strength, 4 bytes length of the presented tag,    HopMAC's tag check                   status, yes or no
+//      the tag, then as H from the key on
 //
-// The functions are 0 TurboSHAKE128, 1 TurboSHAKE256, 2 KT128, 3 KT256, 4 the journal, whose run is a day.
+// The functions are 0 TurboSHAKE128, 1 TurboSHAKE256, 2 KT128, 3 KT256, 4 the journal, whose run is a day. The strengths are
+// 0 for 128, 1 for 256.
 //
 // The input's end before a record ends the program. Any other record, or one that does not fit: `bad record`, and the end.
 mod by_number;
 mod field;
+mod hopmac;
 mod journal_run;
 mod kt_run;
 mod line;
@@ -70,6 +77,8 @@ fn answer(session: Session, op: u8, payload: &[u8], out: &mut [u8], text: &mut [
         b'N' => session::fresh(session, payload),
         b'T' => one_go::turboshake(session, payload, out, text),
         b'K' => one_go::kt(session, payload, out, text),
+        b'H' => hopmac::tag(session, payload, out, text),
+        b'V' => hopmac::verify(session, payload),
         _ => answer_run(session, op, payload, text),
     }
 }
