@@ -1,5 +1,5 @@
--- Laws of KT. Crates above use `Streaming` (the list theorem and what follows from it), `Pieces` (calls in a row) and `Merged`; the
--- rest serves the functions' own proofs.
+-- Laws of KT and HopMAC. Crates above use `Streaming` (the list theorem and what follows from it), `Answers` and `Pieces` (what a call
+-- does, and calls in a row), `Merged` and `Tags` (what the tag check's answer says); the rest serves the functions' own proofs.
 pub mod Published
 pub mod Laws
 pub mod Streaming
