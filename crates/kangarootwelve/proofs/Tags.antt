@@ -1,7 +1,7 @@
 -- What the tag check's answer says: yes exactly where the call is done and the presented tag is the HopMAC of as many bytes.
 -- Assumes nothing.
 use mathlib.Core.Path.{_≡_, refl, sym, ap, ap₂, _∙_}
-use mathlib.Core.Bool.{Bool, true, false, cond, _&&_, false≢true}
+use mathlib.Core.Bool.{true, false, cond, false≢true, and-eq-true-iff}
 use mathlib.Core.List.{List, [], _∷_}
 use Prim.Native.Nat.{ℕ, zero, suc}
 use borrow.Author.Tests.{eq-eqb, ne-eqb, eqb-true}
@@ -10,11 +10,6 @@ use lib.ListN.{length}
 use Rattle.kangarootwelve.specs.Published.{hopmac}
 use Rattle.kangarootwelve.specs.Mac.{checkStatus, sameBytes, verdictOf}
 
--- two tests that are both passed
-split : (p q : Bool) → (p && q) ≡ true → (p ≡ true) × (q ≡ true)
-split true q e = (refl, e)
-split false q e = (e, cc)
-
 -- ---- the comparison tells equal strings, and no others
 
 pub same-equal : (a b : List ℕ) → sameBytes a b ≡ true → a ≡ b
@@ -22,7 +17,7 @@ same-equal [] [] e = refl
 same-equal [] (y ∷ b) e = cc
 same-equal (x ∷ a) [] e = cc
 same-equal (x ∷ a) (y ∷ b) e =
-    let s = split (eqb x y) (sameBytes a b) e in
+    let s = and-eq-true-iff (eqb x y) (sameBytes a b) .0 e in
     ap₂ (λ (z : ℕ) (l : List ℕ). z ∷ l) (eqb-true x y (s .0)) (same-equal a b (s .1))
 
 pub equal-same : (a : List ℕ) → sameBytes a a ≡ true

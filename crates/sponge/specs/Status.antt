@@ -29,7 +29,7 @@ unreachable = 5
 abbrev pub outputTooLong : ℕ
 outputTooLong = 6
 
--- a call in one go asks for 0 bytes
+-- a call in one go asks for 0 bytes, or a presented tag has a length that no tag has
 abbrev pub badLength : ℕ
 badLength = 7
 
