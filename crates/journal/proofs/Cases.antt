@@ -1,7 +1,6 @@
 -- The cases of what each call answers, for the proofs of the code. Assumes nothing.
 use mathlib.Core.Path.{_≡_, sym, ap, _∙_}
 use mathlib.Core.List.{List, []}
-use mathlib.Core.Bool.{true}
 use Prim.Native.Nat.{ℕ, _≤_, _<_}
 use borrow.Author.Tests.{le-leb, lt-leb}
 use lib.ListN.{length}
@@ -12,7 +11,7 @@ use Rattle.sponge.specs.Runs.{perform}
 use Rattle.sponge.proofs.PieceStatus.{finalize-same, squeeze-same, absorb-same, absorb-other}
 use Rattle.kangarootwelve.specs.Transcript as kt-transcript
 use Rattle.kangarootwelve.specs.Model as kt
-use Rattle.kangarootwelve.specs.Model.{Nodes, machine, seen, held}
+use Rattle.kangarootwelve.specs.Model.{Nodes, machine, seen}
 use Rattle.kangarootwelve.specs.declared.Run.{Run}
 use Rattle.kangarootwelve.specs.declared.Answer128.{Answer128}
 use Rattle.kangarootwelve.proofs.Answers.{fresh-is, answer-is, output-is, piece-taken}

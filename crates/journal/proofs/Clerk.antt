@@ -8,7 +8,6 @@ use Rattle.sponge.specs.Transcript.{Phase.squeezing}
 use Rattle.sponge.specs.Streaming.{joined, ran}
 use Rattle.sponge.proofs.Reachable.{callsTo, AllTaken, cut-anywhere}
 use Rattle.turboshake.specs.Transcript.{limit}
-use Rattle.kangarootwelve.specs.Published.{kt128}
 use Rattle.kangarootwelve.specs.Transcript.{customizationLimit}
 use Rattle.kangarootwelve.specs.Model.{machine, hashOutput}
 use Rattle.kangarootwelve.proofs.Pieces.{customization-taken, hash-run}

@@ -19,14 +19,13 @@ use Rattle.sponge.proofs.Reachable.{Statuses, Shape}
 use Rattle.sponge.proofs.Streaming.{Laws}
 use Rattle.sponge.proofs.PieceStatus as pieces
 use Rattle.kangarootwelve.specs.Transcript as kt
-use Rattle.kangarootwelve.specs.Model.{Nodes, machine, seen, held}
+use Rattle.kangarootwelve.specs.Model.{Nodes, machine}
 use Rattle.kangarootwelve.proofs.Laws as kt-laws
 use Rattle.kangarootwelve.proofs.Laws.{positions, due}
 use Rattle.kangarootwelve.proofs.Streaming as kt-streaming
 use Rattle.kangarootwelve.proofs.Answers.{piece-taken}
 use Rattle.journal.specs.Transcript.{eventLimit, eventStatus, rules}
 use Rattle.journal.specs.Model.{dayOf, freshDay, answerOf, replyOf}
-use Rattle.journal.specs.declared.Journal.{Journal}
 
 pub rate-positive : 0 < 168
 rate-positive = omega arith

@@ -11,7 +11,7 @@ use lib.ListN.{length}
 use lib.Dec.{eqb}
 use borrow.Author.Tests.{le-leb}
 use Rattle.sponge.specs.Status.{firstOf}
-use Rattle.sponge.specs.Transcript.{Call, Call.absorb, Call.finalize, Call.squeeze, Phase, Phase.absorbing, Phase.squeezing, Rules, withPieces}
+use Rattle.sponge.specs.Transcript.{Call.absorb, Call.finalize, Call.squeeze, Phase, Phase.absorbing, Phase.squeezing, Rules, withPieces}
 use Rattle.sponge.specs.Runs.{Run, Machine, perform}
 use Rattle.sponge.proofs.FirstStatus.{first-zero}
 use Rattle.sponge.proofs.Streaming.{Fits, Laws}

@@ -1,10 +1,7 @@
 use mathlib.Core.Path.{sym}
 use Rattle.sponge.proofs.FirstStatus.{first-refused, first-done}
-use borrow.Author.Needs.{needs}
 use Rattle.journal.proofs.long_status.Statement.{statement}
 use Rattle.journal.proofs.long_status.Tie as tie
-use Rattle.journal.proofs.long_status.Reads as reads
-use Rattle.journal.proofs.long_status.Lts as lts
 
 returns : tie.Need-returns
 returns c = sym (first-refused (c .before .args .tried) 8 (c .if1 .taken))

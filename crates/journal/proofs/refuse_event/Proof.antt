@@ -5,10 +5,6 @@ use Rattle.kangarootwelve.specs.declared.Answer128.{Answer128}
 use borrow.Author.Needs.{needs}
 use Rattle.journal.proofs.refuse_event.Statement.{statement}
 use Rattle.journal.proofs.refuse_event.Tie as tie
-use Rattle.journal.proofs.refuse_event.Reads as reads
-use Rattle.journal.proofs.refuse_event.Lts as lts
-use Rattle.journal.proofs.long_status.Reads as long-status-reads
-use Rattle.kangarootwelve.proofs.Kt128.absorb.Reads as absorb-reads
 
 absorb-requires : tie.Need-absorb-requires
 absorb-requires c κs = search needs

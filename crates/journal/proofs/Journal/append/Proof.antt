@@ -8,11 +8,6 @@ use Rattle.journal.proofs.Cases.{dayAnswer, short-answer, long-answer}
 use borrow.Author.Needs.{needs}
 use Rattle.journal.proofs.Journal.append.Statement.{statement}
 use Rattle.journal.proofs.Journal.append.Tie as tie
-use Rattle.journal.proofs.Journal.append.Reads as reads
-use Rattle.journal.proofs.Journal.append.Lts as lts
-use Rattle.journal.proofs.answer_of.Reads as answer-of-reads
-use Rattle.journal.proofs.refuse_event.Reads as refuse-event-reads
-use Rattle.kangarootwelve.proofs.Kt128.absorb.Reads as absorb-reads
 
 sub-refuse-event : tie.Need-sub-refuse-event
 sub-refuse-event c = search needs

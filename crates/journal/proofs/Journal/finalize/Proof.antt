@@ -3,10 +3,6 @@ use Rattle.journal.proofs.Cases.{dayAnswer, finalize-answer}
 use borrow.Author.Needs.{needs}
 use Rattle.journal.proofs.Journal.finalize.Statement.{statement}
 use Rattle.journal.proofs.Journal.finalize.Tie as tie
-use Rattle.journal.proofs.Journal.finalize.Reads as reads
-use Rattle.journal.proofs.Journal.finalize.Lts as lts
-use Rattle.journal.proofs.answer_of.Reads as answer-of-reads
-use Rattle.kangarootwelve.proofs.Kt128.finalize.Reads as finalize-reads
 
 finalize-requires : tie.Need-finalize-requires
 finalize-requires c κs = search needs

@@ -4,9 +4,6 @@ use Rattle.journal.proofs.Cases.{fresh-day}
 use borrow.Author.Needs.{needs}
 use Rattle.journal.proofs.Journal.fresh.Statement.{statement}
 use Rattle.journal.proofs.Journal.fresh.Tie as tie
-use Rattle.journal.proofs.Journal.fresh.Reads as reads
-use Rattle.journal.proofs.Journal.fresh.Lts as lts
-use Rattle.kangarootwelve.proofs.Kt128.fresh.Reads as fresh-reads
 
 fresh-requires : tie.Need-fresh-requires
 fresh-requires c κs = search needs

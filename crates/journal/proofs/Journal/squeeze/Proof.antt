@@ -4,10 +4,6 @@ use Rattle.journal.proofs.Cases.{dayAnswer, squeeze-answer, squeeze-out
 use borrow.Author.Needs.{needs}
 use Rattle.journal.proofs.Journal.squeeze.Statement.{statement}
 use Rattle.journal.proofs.Journal.squeeze.Tie as tie
-use Rattle.journal.proofs.Journal.squeeze.Reads as reads
-use Rattle.journal.proofs.Journal.squeeze.Lts as lts
-use Rattle.journal.proofs.answer_of.Reads as answer-of-reads
-use Rattle.kangarootwelve.proofs.Kt128.squeeze.Reads as squeeze-reads
 
 squeeze-requires : tie.Need-squeeze-requires
 squeeze-requires c κs = search needs
