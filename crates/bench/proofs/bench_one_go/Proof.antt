@@ -1,9 +1,6 @@
 use borrow.Author.Needs.{needs}
 use Rattle.bench.proofs.bench_one_go.Statement.{statement}
 use Rattle.bench.proofs.bench_one_go.Tie as tie
-use Rattle.bench.proofs.bench_one_go.Reads as reads
-use Rattle.bench.proofs.bench_one_go.Lts as lts
-use Rattle.turboshake.proofs.TurboShake128.hash.Reads as hash-reads
 
 hash-requires : tie.Need-hash-requires
 hash-requires c κs = search needs

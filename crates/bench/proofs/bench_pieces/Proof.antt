@@ -7,13 +7,6 @@ use Rattle.bench.proofs.Pieces.{pieces-9, Absorbed, start, again, refus
 use Rattle.bench.proofs.Hashers.{turboHasher}
 use Rattle.bench.proofs.bench_pieces.Statement.{statement}
 use Rattle.bench.proofs.bench_pieces.Tie as tie
-use Rattle.bench.proofs.bench_pieces.Reads as reads
-use Rattle.bench.proofs.bench_pieces.Lts as lts
-use Rattle.bench.proofs.least.Reads as least-reads
-use Rattle.turboshake.proofs.TurboShake128.absorb.Reads as absorb-reads
-use Rattle.turboshake.proofs.TurboShake128.finalize.Reads as finalize-reads
-use Rattle.turboshake.proofs.TurboShake128.fresh.Reads as fresh-reads
-use Rattle.turboshake.proofs.TurboShake128.squeeze.Reads as squeeze-reads
 
 abbrev Inv-loop : tie.InvT-loop
 Inv-loop message step out hasher₀ i₀ hasher i = Absorbed turboHasher message hasher i

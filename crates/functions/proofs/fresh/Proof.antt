@@ -7,10 +7,6 @@ use Rattle.functions.specs.Functions.{rateOf}
 use borrow.Author.Needs.{needs}
 use Rattle.functions.proofs.fresh.Statement.{statement}
 use Rattle.functions.proofs.fresh.Tie as tie
-use Rattle.functions.proofs.fresh.Reads as reads
-use Rattle.functions.proofs.fresh.Lts as lts
-use Rattle.turboshake.proofs.TurboShake128.fresh.Reads as TurboShake128-fresh-reads
-use Rattle.turboshake.proofs.TurboShake256.fresh.Reads as TurboShake256-fresh-reads
 
 enum-told : tie.Need-enum-told
 enum-told c = search needs

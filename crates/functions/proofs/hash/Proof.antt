@@ -5,10 +5,6 @@ use Rattle.functions.specs.Functions.{rateOf}
 use borrow.Author.Needs.{needs}
 use Rattle.functions.proofs.hash.Statement.{statement}
 use Rattle.functions.proofs.hash.Tie as tie
-use Rattle.functions.proofs.hash.Reads as reads
-use Rattle.functions.proofs.hash.Lts as lts
-use Rattle.turboshake.proofs.TurboShake128.hash.Reads as TurboShake128-hash-reads
-use Rattle.turboshake.proofs.TurboShake256.hash.Reads as TurboShake256-hash-reads
 
 enum-told : tie.Need-enum-told
 enum-told c = search needs

@@ -9,12 +9,6 @@ use Rattle.functions.specs.Functions.{rateOf, answerIn}
 use borrow.Author.Needs.{needs}
 use Rattle.functions.proofs.squeeze.Statement.{statement}
 use Rattle.functions.proofs.squeeze.Tie as tie
-use Rattle.functions.proofs.squeeze.Reads as reads
-use Rattle.functions.proofs.squeeze.Lts as lts
-use Rattle.functions.proofs.answer_of_128.Reads as answer-of-128-reads
-use Rattle.functions.proofs.answer_of_256.Reads as answer-of-256-reads
-use Rattle.turboshake.proofs.TurboShake128.squeeze.Reads as TurboShake128-squeeze-reads
-use Rattle.turboshake.proofs.TurboShake256.squeeze.Reads as TurboShake256-squeeze-reads
 
 enum-told : tie.Need-enum-told
 enum-told c = search needs

@@ -8,11 +8,6 @@ use Rattle.sponge.specs.declared.Answer.{Answer}
 use Rattle.sponge.proofs.Valid.{valid-fits, absorb-refused, absorb-done}
 use Rattle.sponge.proofs.absorb.Statement.{statement}
 use Rattle.sponge.proofs.absorb.Tie as tie
-use Rattle.sponge.proofs.absorb.Reads as reads
-use Rattle.sponge.proofs.absorb.Lts as lts
-use Rattle.sponge.proofs.absorb_blocks.Reads as absorb-blocks-reads
-use Rattle.sponge.proofs.is_valid.Reads as is-valid-reads
-use Rattle.sponge.proofs.refused.Reads as refused-reads
 
 -- past the test
 was : (c : tie.Else1) → valid (c .before .before .before .args .rate) (c .before .before .before .args .position) ≡ true

@@ -10,11 +10,6 @@ use Rattle.sponge.specs.Model.{absorbBytes}
 use Rattle.sponge.proofs.Blocks.{absorb-part, absorb-done}
 use Rattle.sponge.proofs.absorb_blocks.Statement.{statement}
 use Rattle.sponge.proofs.absorb_blocks.Tie as tie
-use Rattle.sponge.proofs.absorb_blocks.Reads as reads
-use Rattle.sponge.proofs.absorb_blocks.Lts as lts
-use Rattle.sponge.proofs.block.xor_part.Reads as xor-part-reads
-use Rattle.sponge.proofs.least.Reads as least-reads
-use Rattle.sponge.proofs.next_position.Reads as next-position-reads
 
 -- what is left of the piece takes the state in hand to where the whole piece takes the first
 abbrev Inv-loop : tie.InvT-loop

@@ -2,8 +2,6 @@ use borrow.Author.Tests.{lt-leb, le-leb}
 use Rattle.sponge.specs.Model.{valid}
 use Rattle.sponge.proofs.is_valid.Statement.{statement}
 use Rattle.sponge.proofs.is_valid.Tie as tie
-use Rattle.sponge.proofs.is_valid.Reads as reads
-use Rattle.sponge.proofs.is_valid.Lts as lts
 
 returns : tie.Need-returns
 unfolding valid

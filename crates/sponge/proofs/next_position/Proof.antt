@@ -7,9 +7,6 @@ use Rattle.keccak.specs.Permutation.{permuted}
 use Rattle.sponge.proofs.Blocks.{ready-full, ready-other}
 use Rattle.sponge.proofs.next_position.Statement.{statement}
 use Rattle.sponge.proofs.next_position.Tie as tie
-use Rattle.sponge.proofs.next_position.Reads as reads
-use Rattle.sponge.proofs.next_position.Lts as lts
-use Rattle.keccak.proofs.permute_in_place.Reads as permute-in-place-reads
 
 permute-in-place-requires : tie.Need-permute-in-place-requires
 permute-in-place-requires c κs = search needs

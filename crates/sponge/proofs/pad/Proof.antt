@@ -8,11 +8,6 @@ use Rattle.sponge.specs.declared.Answer.{Answer}
 use Rattle.sponge.proofs.Valid.{valid-fits, pad-refused, pad-done}
 use Rattle.sponge.proofs.pad.Statement.{statement}
 use Rattle.sponge.proofs.pad.Tie as tie
-use Rattle.sponge.proofs.pad.Reads as reads
-use Rattle.sponge.proofs.pad.Lts as lts
-use Rattle.sponge.proofs.is_valid.Reads as is-valid-reads
-use Rattle.sponge.proofs.refused.Reads as refused-reads
-use Rattle.sponge.proofs.pad_block.Reads as pad-block-reads
 
 -- past the test
 was : (c : tie.Else1) → valid (c .before .before .args .rate) (c .before .before .args .position) ≡ true

@@ -8,11 +8,6 @@ use Rattle.sponge.specs.Published.{xorByte}
 use Rattle.sponge.proofs.Blocks.{pad-part}
 use Rattle.sponge.proofs.pad_block.Statement.{statement}
 use Rattle.sponge.proofs.pad_block.Tie as tie
-use Rattle.sponge.proofs.pad_block.Reads as reads
-use Rattle.sponge.proofs.pad_block.Lts as lts
-use Rattle.keccak.proofs.permute_in_place.Reads as permute-in-place-reads
-use Rattle.sponge.proofs.block.xor_byte.Reads as xor-byte-reads
-use Rattle.sponge.proofs.next_position.Reads as next-position-reads
 
 next-position-requires : tie.Need-next-position-requires
 next-position-requires c κs = search needs

@@ -1,8 +1,6 @@
 use mathlib.Core.Path.{refl}
 use Rattle.sponge.proofs.refused.Statement.{statement}
 use Rattle.sponge.proofs.refused.Tie as tie
-use Rattle.sponge.proofs.refused.Reads as reads
-use Rattle.sponge.proofs.refused.Lts as lts
 
 returns : tie.Need-returns
 returns c = refl

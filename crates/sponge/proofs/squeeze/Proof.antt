@@ -9,11 +9,6 @@ use Rattle.sponge.specs.declared.Answer.{Answer}
 use Rattle.sponge.proofs.Valid.{valid-fits, squeeze-refused, squeeze-done, output-refused, output-done}
 use Rattle.sponge.proofs.squeeze.Statement.{statement}
 use Rattle.sponge.proofs.squeeze.Tie as tie
-use Rattle.sponge.proofs.squeeze.Reads as reads
-use Rattle.sponge.proofs.squeeze.Lts as lts
-use Rattle.sponge.proofs.is_valid.Reads as is-valid-reads
-use Rattle.sponge.proofs.refused.Reads as refused-reads
-use Rattle.sponge.proofs.squeeze_blocks.Reads as squeeze-blocks-reads
 
 -- past the test
 was : (c : tie.Else1) → valid (c .before .before .before .args .rate) (c .before .before .before .args .position) ≡ true

@@ -12,11 +12,6 @@ use Rattle.sponge.proofs.Output.{put-part, write-all}
 use Rattle.sponge.proofs.Blocks.{squeeze-part, after-part}
 use Rattle.sponge.proofs.squeeze_blocks.Statement.{statement}
 use Rattle.sponge.proofs.squeeze_blocks.Tie as tie
-use Rattle.sponge.proofs.squeeze_blocks.Reads as reads
-use Rattle.sponge.proofs.squeeze_blocks.Lts as lts
-use Rattle.sponge.proofs.block.read_part.Reads as read-part-reads
-use Rattle.sponge.proofs.least.Reads as least-reads
-use Rattle.sponge.proofs.next_position.Reads as next-position-reads
 
 abbrev Inv-loop : tie.InvT-loop
 Inv-loop lanes₀ position rate out₀ p₀ i₀ lanes out p i =

@@ -5,9 +5,6 @@ use borrow.Author.Needs.{needs}
 use Rattle.turboshake.proofs.AtRate.{at-refused, at-untouched, at-status, at-output}
 use Rattle.turboshake.proofs.hash_at_rate.Statement.{statement}
 use Rattle.turboshake.proofs.hash_at_rate.Tie as tie
-use Rattle.turboshake.proofs.hash_at_rate.Reads as reads
-use Rattle.turboshake.proofs.hash_at_rate.Lts as lts
-use Rattle.turboshake.proofs.calls.hash.Reads as hash-reads
 
 returns : tie.Need-returns
 returns c =

@@ -1,9 +1,6 @@
 use borrow.Author.Needs.{needs}
 use Rattle.bench.proofs.kt.bench_kt_one_go.Statement.{statement}
 use Rattle.bench.proofs.kt.bench_kt_one_go.Tie as tie
-use Rattle.bench.proofs.kt.bench_kt_one_go.Reads as reads
-use Rattle.bench.proofs.kt.bench_kt_one_go.Lts as lts
-use Rattle.kangarootwelve.proofs.Kt128.hash.Reads as hash-reads
 
 sub-hash : tie.Need-sub-hash
 sub-hash c = search needs

@@ -7,13 +7,6 @@ use Rattle.bench.proofs.Pieces.{pieces-9, Absorbed, start, again, refus
 use Rattle.bench.proofs.Hashers.{ktHasher}
 use Rattle.bench.proofs.kt.bench_kt_pieces.Statement.{statement}
 use Rattle.bench.proofs.kt.bench_kt_pieces.Tie as tie
-use Rattle.bench.proofs.kt.bench_kt_pieces.Reads as reads
-use Rattle.bench.proofs.kt.bench_kt_pieces.Lts as lts
-use Rattle.bench.proofs.least.Reads as least-reads
-use Rattle.kangarootwelve.proofs.Kt128.absorb.Reads as absorb-reads
-use Rattle.kangarootwelve.proofs.Kt128.finalize.Reads as finalize-reads
-use Rattle.kangarootwelve.proofs.Kt128.fresh.Reads as fresh-reads
-use Rattle.kangarootwelve.proofs.Kt128.squeeze.Reads as squeeze-reads
 
 abbrev Inv-loop : tie.InvT-loop
 Inv-loop message step out hasher₀ i₀ hasher i = Absorbed ktHasher message hasher i

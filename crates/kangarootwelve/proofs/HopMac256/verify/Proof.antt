@@ -1,9 +1,6 @@
 use borrow.Author.Needs.{needs}
 use Rattle.kangarootwelve.proofs.HopMac256.verify.Statement.{statement}
 use Rattle.kangarootwelve.proofs.HopMac256.verify.Tie as tie
-use Rattle.kangarootwelve.proofs.HopMac256.verify.Reads as reads
-use Rattle.kangarootwelve.proofs.HopMac256.verify.Lts as lts
-use Rattle.kangarootwelve.proofs.hopmac.verify.Reads as verify-reads
 
 verify-requires : tie.Need-verify-requires
 verify-requires c κs = search needs

@@ -7,11 +7,6 @@ use Rattle.kangarootwelve.specs.declared.Run.{Run}
 use borrow.Author.Needs.{needs}
 use Rattle.kangarootwelve.proofs.Kt256.finalize.Statement.{statement}
 use Rattle.kangarootwelve.proofs.Kt256.finalize.Tie as tie
-use Rattle.kangarootwelve.proofs.Kt256.finalize.Reads as reads
-use Rattle.kangarootwelve.proofs.Kt256.finalize.Lts as lts
-use Rattle.kangarootwelve.proofs.calls.finalize.Reads as finalize-reads
-use Rattle.kangarootwelve.proofs.calls.progress.Reads as progress-reads
-use Rattle.kangarootwelve.proofs.calls.run_with.Reads as run-with-reads
 
 progress-requires : tie.Need-progress-requires
 progress-requires c κs = search needs

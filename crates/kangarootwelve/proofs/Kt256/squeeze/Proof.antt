@@ -8,11 +8,6 @@ use Rattle.kangarootwelve.specs.declared.Progress.{Progress}
 use borrow.Author.Needs.{needs}
 use Rattle.kangarootwelve.proofs.Kt256.squeeze.Statement.{statement}
 use Rattle.kangarootwelve.proofs.Kt256.squeeze.Tie as tie
-use Rattle.kangarootwelve.proofs.Kt256.squeeze.Reads as reads
-use Rattle.kangarootwelve.proofs.Kt256.squeeze.Lts as lts
-use Rattle.kangarootwelve.proofs.calls.progress.Reads as progress-reads
-use Rattle.kangarootwelve.proofs.calls.run_with.Reads as run-with-reads
-use Rattle.kangarootwelve.proofs.calls.squeeze.Reads as squeeze-reads
 
 progress-requires : tie.Need-progress-requires
 progress-requires c κs = search needs

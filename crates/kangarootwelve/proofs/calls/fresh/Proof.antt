@@ -5,8 +5,6 @@ use Rattle.sponge.proofs.Valid.{zero-lanes}
 use Rattle.kangarootwelve.specs.Model.{freshOf, machine}
 use Rattle.kangarootwelve.proofs.calls.fresh.Statement.{statement}
 use Rattle.kangarootwelve.proofs.calls.fresh.Tie as tie
-use Rattle.kangarootwelve.proofs.calls.fresh.Reads as reads
-use Rattle.kangarootwelve.proofs.calls.fresh.Lts as lts
 
 returns : tie.Need-returns
 unfolding freshOf machine

@@ -3,8 +3,6 @@ use Rattle.kangarootwelve.proofs.Published.{chunk-is}
 use borrow.Author.Needs.{needs}
 use Rattle.kangarootwelve.proofs.calls.index_after.Statement.{statement}
 use Rattle.kangarootwelve.proofs.calls.index_after.Tie as tie
-use Rattle.kangarootwelve.proofs.calls.index_after.Reads as reads
-use Rattle.kangarootwelve.proofs.calls.index_after.Lts as lts
 
 returns : tie.Need-returns
 returns c = search needs

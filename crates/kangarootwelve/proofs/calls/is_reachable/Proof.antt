@@ -2,11 +2,6 @@ use Rattle.kangarootwelve.proofs.Cases.{long, open-squeezed, open-node,
 use borrow.Author.Needs.{needs}
 use Rattle.kangarootwelve.proofs.calls.is_reachable.Statement.{statement}
 use Rattle.kangarootwelve.proofs.calls.is_reachable.Tie as tie
-use Rattle.kangarootwelve.proofs.calls.is_reachable.Reads as reads
-use Rattle.kangarootwelve.proofs.calls.is_reachable.Lts as lts
-use Rattle.kangarootwelve.proofs.calls.leaf_due.Reads as leaf-due-reads
-use Rattle.kangarootwelve.proofs.calls.node_due.Reads as node-due-reads
-use Rattle.kangarootwelve.proofs.calls.position_after.Reads as position-after-reads
 
 returns : tie.Need-returns
 returns c = let a = c .before .before .args in long (a .rate) (a .chaining) (a .at .node) (a .at .leaf) (a .at .phase) (a .at .absorbed) (a .at .squeezed) (c .if1 .taken)

@@ -5,8 +5,6 @@ use Rattle.kangarootwelve.proofs.Cases.{position-suc}
 use borrow.Author.Needs.{needs}
 use Rattle.kangarootwelve.proofs.calls.position_after.Statement.{statement}
 use Rattle.kangarootwelve.proofs.calls.position_after.Tie as tie
-use Rattle.kangarootwelve.proofs.calls.position_after.Reads as reads
-use Rattle.kangarootwelve.proofs.calls.position_after.Lts as lts
 
 returns : tie.Need-returns
 returns c = search needs

@@ -9,8 +9,6 @@ use Rattle.kangarootwelve.specs.Published.{digits}
 use Rattle.kangarootwelve.proofs.Encoding.{digits-put, room, room-some, encoded}
 use Rattle.kangarootwelve.proofs.encode.length_encode.Statement.{statement}
 use Rattle.kangarootwelve.proofs.encode.length_encode.Tie as tie
-use Rattle.kangarootwelve.proofs.encode.length_encode.Reads as reads
-use Rattle.kangarootwelve.proofs.encode.length_encode.Lts as lts
 
 abbrev Inv-loop : tie.InvT-loop
 Inv-loop x encoded₀ rest₀ i₀ encoded rest i =

@@ -1,8 +1,6 @@
 use Rattle.kangarootwelve.proofs.Mac.{check-key, check-message, check-4, check-empty, check-long, check-0}
 use Rattle.kangarootwelve.proofs.hopmac.check_status.Statement.{statement}
 use Rattle.kangarootwelve.proofs.hopmac.check_status.Tie as tie
-use Rattle.kangarootwelve.proofs.hopmac.check_status.Reads as reads
-use Rattle.kangarootwelve.proofs.hopmac.check_status.Lts as lts
 
 returns : tie.Need-returns
 returns c = let a = c .before .args in check-key (a .key) (a .message) (a .customization) (a .presented) (c .if1 .taken)

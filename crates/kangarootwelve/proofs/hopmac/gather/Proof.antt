@@ -1,8 +1,6 @@
 use Rattle.kangarootwelve.proofs.Mac.{gathered}
 use Rattle.kangarootwelve.proofs.hopmac.gather.Statement.{statement}
 use Rattle.kangarootwelve.proofs.hopmac.gather.Tie as tie
-use Rattle.kangarootwelve.proofs.hopmac.gather.Reads as reads
-use Rattle.kangarootwelve.proofs.hopmac.gather.Lts as lts
 
 returns : tie.Need-returns
 returns c = let a = c .args in gathered (a .difference) (a .x) (a .y)

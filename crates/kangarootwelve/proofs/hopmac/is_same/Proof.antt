@@ -10,9 +10,6 @@ use Rattle.kangarootwelve.proofs.Mac.{same-step, same-done}
 use borrow.Author.Needs.{needs}
 use Rattle.kangarootwelve.proofs.hopmac.is_same.Statement.{statement}
 use Rattle.kangarootwelve.proofs.hopmac.is_same.Tie as tie
-use Rattle.kangarootwelve.proofs.hopmac.is_same.Reads as reads
-use Rattle.kangarootwelve.proofs.hopmac.is_same.Lts as lts
-use Rattle.kangarootwelve.proofs.hopmac.gather.Reads as gather-reads
 
 abbrev Inv-loop : tie.InvT-loop
 Inv-loop expected presented difference₀ i₀ difference i = (i ≤ length expected) × ((eqb difference 0 && sameBytes (drop i expected) (drop i presented)) ≡ sameBytes expected presented)

@@ -2,10 +2,6 @@ use Rattle.kangarootwelve.proofs.Mac.{tag-row}
 use borrow.Author.Needs.{needs}
 use Rattle.kangarootwelve.proofs.hopmac.is_tag.Statement.{statement}
 use Rattle.kangarootwelve.proofs.hopmac.is_tag.Tie as tie
-use Rattle.kangarootwelve.proofs.hopmac.is_tag.Reads as reads
-use Rattle.kangarootwelve.proofs.hopmac.is_tag.Lts as lts
-use Rattle.kangarootwelve.proofs.hopmac.is_same.Reads as is-same-reads
-use Rattle.kangarootwelve.proofs.hopmac.tag.Reads as tag-reads
 
 tag-requires : tie.Need-tag-requires
 tag-requires c κs = search needs

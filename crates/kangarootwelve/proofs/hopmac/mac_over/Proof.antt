@@ -2,9 +2,6 @@ use Rattle.kangarootwelve.proofs.Mac.{mac-row}
 use borrow.Author.Needs.{needs}
 use Rattle.kangarootwelve.proofs.hopmac.mac_over.Statement.{statement}
 use Rattle.kangarootwelve.proofs.hopmac.mac_over.Tie as tie
-use Rattle.kangarootwelve.proofs.hopmac.mac_over.Reads as reads
-use Rattle.kangarootwelve.proofs.hopmac.mac_over.Lts as lts
-use Rattle.kangarootwelve.proofs.one_go.hash.Reads as hash-reads
 
 hash-requires : tie.Need-hash-requires
 hash-requires c κs = search needs

@@ -2,9 +2,6 @@ use Rattle.kangarootwelve.proofs.Mac.{mac-2, mac-rest}
 use borrow.Author.Needs.{needs}
 use Rattle.kangarootwelve.proofs.hopmac.mac_status.Statement.{statement}
 use Rattle.kangarootwelve.proofs.hopmac.mac_status.Tie as tie
-use Rattle.kangarootwelve.proofs.hopmac.mac_status.Reads as reads
-use Rattle.kangarootwelve.proofs.hopmac.mac_status.Lts as lts
-use Rattle.kangarootwelve.proofs.one_go.hash_status.Reads as hash-status-reads
 
 returns : tie.Need-returns
 returns c = let a = c .before .args in mac-2 (a .key) (a .message) (a .customization) (a .asked) (c .if1 .taken)

@@ -7,10 +7,6 @@ use Rattle.kangarootwelve.proofs.Mac.{mac-refused, mac-written}
 use borrow.Author.Needs.{needs}
 use Rattle.kangarootwelve.proofs.hopmac.tag.Statement.{statement}
 use Rattle.kangarootwelve.proofs.hopmac.tag.Tie as tie
-use Rattle.kangarootwelve.proofs.hopmac.tag.Reads as reads
-use Rattle.kangarootwelve.proofs.hopmac.tag.Lts as lts
-use Rattle.kangarootwelve.proofs.hopmac.mac_over.Reads as mac-over-reads
-use Rattle.kangarootwelve.proofs.hopmac.mac_status.Reads as mac-status-reads
 
 mac-status-requires : tie.Need-mac-status-requires
 mac-status-requires c κs = search needs

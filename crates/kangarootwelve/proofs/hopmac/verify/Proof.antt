@@ -6,10 +6,6 @@ use Rattle.kangarootwelve.proofs.Mac.{check-fits, check-mac, verdict-re
 use borrow.Author.Needs.{needs}
 use Rattle.kangarootwelve.proofs.hopmac.verify.Statement.{statement}
 use Rattle.kangarootwelve.proofs.hopmac.verify.Tie as tie
-use Rattle.kangarootwelve.proofs.hopmac.verify.Reads as reads
-use Rattle.kangarootwelve.proofs.hopmac.verify.Lts as lts
-use Rattle.kangarootwelve.proofs.hopmac.check_status.Reads as check-status-reads
-use Rattle.kangarootwelve.proofs.hopmac.is_tag.Reads as is-tag-reads
 
 check-status-requires : tie.Need-check-status-requires
 check-status-requires c κs = search needs

@@ -9,10 +9,6 @@ use Rattle.kangarootwelve.proofs.OneGo.{first-chunk, later-chunk, ended
 use borrow.Author.Needs.{needs}
 use Rattle.kangarootwelve.proofs.one_go.absorb_chunk.Statement.{statement}
 use Rattle.kangarootwelve.proofs.one_go.absorb_chunk.Tie as tie
-use Rattle.kangarootwelve.proofs.one_go.absorb_chunk.Reads as reads
-use Rattle.kangarootwelve.proofs.one_go.absorb_chunk.Lts as lts
-use Rattle.kangarootwelve.proofs.one_go.absorb_leaf.Reads as absorb-leaf-reads
-use Rattle.sponge.proofs.absorb.Reads as absorb-reads
 
 absorb-requires : tie.Need-absorb-requires
 absorb-requires c κs = search needs

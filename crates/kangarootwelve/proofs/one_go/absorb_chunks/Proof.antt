@@ -12,9 +12,6 @@ use Rattle.kangarootwelve.specs.Inside.{endedChunk, endedChunks}
 use Rattle.kangarootwelve.proofs.OneGo.{chunk-length, part-chunk, chunks-step, chunks-done}
 use Rattle.kangarootwelve.proofs.one_go.absorb_chunks.Statement.{statement}
 use Rattle.kangarootwelve.proofs.one_go.absorb_chunks.Tie as tie
-use Rattle.kangarootwelve.proofs.one_go.absorb_chunks.Reads as reads
-use Rattle.kangarootwelve.proofs.one_go.absorb_chunks.Lts as lts
-use Rattle.kangarootwelve.proofs.one_go.absorb_chunk.Reads as absorb-chunk-reads
 
 abbrev Inv-loop : tie.InvT-loop
 Inv-loop rate chaining node₀ message count p₀ i₀ node p i =

@@ -2,10 +2,6 @@ use Rattle.kangarootwelve.proofs.OneGo.{leaf-row}
 use borrow.Author.Needs.{needs}
 use Rattle.kangarootwelve.proofs.one_go.absorb_leaf.Statement.{statement}
 use Rattle.kangarootwelve.proofs.one_go.absorb_leaf.Tie as tie
-use Rattle.kangarootwelve.proofs.one_go.absorb_leaf.Reads as reads
-use Rattle.kangarootwelve.proofs.one_go.absorb_leaf.Lts as lts
-use Rattle.sponge.proofs.absorb.Reads as absorb-reads
-use Rattle.turboshake.proofs.hash_at_rate.Reads as hash-at-rate-reads
 
 hash-at-rate-requires : tie.Need-hash-at-rate-requires
 hash-at-rate-requires c κs = search needs

@@ -10,13 +10,6 @@ use Rattle.kangarootwelve.proofs.OneGo.{hash-fits, hash-refused, hash-w
 use borrow.Author.Needs.{needs}
 use Rattle.kangarootwelve.proofs.one_go.hash.Statement.{statement}
 use Rattle.kangarootwelve.proofs.one_go.hash.Tie as tie
-use Rattle.kangarootwelve.proofs.one_go.hash.Reads as reads
-use Rattle.kangarootwelve.proofs.one_go.hash.Lts as lts
-use Rattle.kangarootwelve.proofs.one_go.absorb_chunks.Reads as absorb-chunks-reads
-use Rattle.kangarootwelve.proofs.one_go.hash_status.Reads as hash-status-reads
-use Rattle.kangarootwelve.proofs.tree.absorb.Reads as absorb-reads
-use Rattle.kangarootwelve.proofs.tree.finalize.Reads as finalize-reads
-use Rattle.sponge.proofs.squeeze.Reads as squeeze-reads
 
 hash-status-requires : tie.Need-hash-status-requires
 hash-status-requires c κs = search needs

@@ -1,8 +1,6 @@
 use Rattle.kangarootwelve.proofs.OneGo.{hash-2, hash-4, hash-7, hash-6, hash-0}
 use Rattle.kangarootwelve.proofs.one_go.hash_status.Statement.{statement}
 use Rattle.kangarootwelve.proofs.one_go.hash_status.Tie as tie
-use Rattle.kangarootwelve.proofs.one_go.hash_status.Reads as reads
-use Rattle.kangarootwelve.proofs.one_go.hash_status.Lts as lts
 
 returns : tie.Need-returns
 returns c = let a = c .before .args in hash-2 (a .message) (a .customization) (a .asked) (c .if1 .taken)

@@ -11,11 +11,6 @@ use Rattle.kangarootwelve.proofs.Published.{chunk-is, index-put}
 use Rattle.kangarootwelve.proofs.Nodes.{Next, next-fits, part-length, part-is, part-fits, tree-part}
 use Rattle.kangarootwelve.proofs.tree.absorb.Statement.{statement}
 use Rattle.kangarootwelve.proofs.tree.absorb.Tie as tie
-use Rattle.kangarootwelve.proofs.tree.absorb.Reads as reads
-use Rattle.kangarootwelve.proofs.tree.absorb.Lts as lts
-use Rattle.kangarootwelve.proofs.tree.absorb_part.Reads as absorb-part-reads
-use Rattle.kangarootwelve.proofs.tree.least.Reads as least-reads
-use Rattle.kangarootwelve.proofs.tree.next_byte.Reads as next-byte-reads
 
 abbrev Inv-loop : tie.InvT-loop
 Inv-loop rate chaining node₀ leaf₀ piece place₀ i₀ node leaf place i =

@@ -8,9 +8,6 @@ use Rattle.kangarootwelve.proofs.Nodes.{first-row, later-row}
 use borrow.Author.Needs.{needs}
 use Rattle.kangarootwelve.proofs.tree.absorb_part.Statement.{statement}
 use Rattle.kangarootwelve.proofs.tree.absorb_part.Tie as tie
-use Rattle.kangarootwelve.proofs.tree.absorb_part.Reads as reads
-use Rattle.kangarootwelve.proofs.tree.absorb_part.Lts as lts
-use Rattle.sponge.proofs.absorb.Reads as absorb-reads
 
 add-next : tie.Need-add-next
 add-next c = let h = c .before .before .pre in omega (arith, chunk-is)

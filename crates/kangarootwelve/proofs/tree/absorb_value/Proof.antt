@@ -3,11 +3,6 @@ use Rattle.kangarootwelve.proofs.Nodes.{value-row}
 use borrow.Author.Needs.{needs}
 use Rattle.kangarootwelve.proofs.tree.absorb_value.Statement.{statement}
 use Rattle.kangarootwelve.proofs.tree.absorb_value.Tie as tie
-use Rattle.kangarootwelve.proofs.tree.absorb_value.Reads as reads
-use Rattle.kangarootwelve.proofs.tree.absorb_value.Lts as lts
-use Rattle.sponge.proofs.absorb.Reads as absorb-reads
-use Rattle.sponge.proofs.pad.Reads as pad-reads
-use Rattle.sponge.proofs.squeeze.Reads as squeeze-reads
 
 pad-requires : tie.Need-pad-requires
 pad-requires c κs = search needs

@@ -6,12 +6,6 @@ use Rattle.kangarootwelve.proofs.Encoding.{encoded-part}
 use borrow.Author.Needs.{needs}
 use Rattle.kangarootwelve.proofs.tree.close.Statement.{statement}
 use Rattle.kangarootwelve.proofs.tree.close.Tie as tie
-use Rattle.kangarootwelve.proofs.tree.close.Reads as reads
-use Rattle.kangarootwelve.proofs.tree.close.Lts as lts
-use Rattle.kangarootwelve.proofs.encode.length_encode.Reads as length-encode-reads
-use Rattle.kangarootwelve.proofs.tree.absorb_value.Reads as absorb-value-reads
-use Rattle.sponge.proofs.absorb.Reads as absorb-reads
-use Rattle.sponge.proofs.pad.Reads as pad-reads
 
 pad-requires : tie.Need-pad-requires
 pad-requires c κs = search needs

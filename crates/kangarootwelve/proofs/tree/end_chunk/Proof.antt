@@ -9,11 +9,6 @@ use Rattle.kangarootwelve.proofs.Nodes.{value-length, marked-row, value
 use borrow.Author.Needs.{needs}
 use Rattle.kangarootwelve.proofs.tree.end_chunk.Statement.{statement}
 use Rattle.kangarootwelve.proofs.tree.end_chunk.Tie as tie
-use Rattle.kangarootwelve.proofs.tree.end_chunk.Reads as reads
-use Rattle.kangarootwelve.proofs.tree.end_chunk.Lts as lts
-use Rattle.kangarootwelve.proofs.tree.absorb_value.Reads as absorb-value-reads
-use Rattle.kangarootwelve.proofs.tree.opened.Reads as opened-reads
-use Rattle.sponge.proofs.absorb.Reads as absorb-reads
 
 slice-aggregate-absorb : tie.Need-slice-aggregate-absorb
 slice-aggregate-absorb c = search needs

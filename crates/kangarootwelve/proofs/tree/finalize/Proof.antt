@@ -10,11 +10,6 @@ use Rattle.kangarootwelve.proofs.Encoding.{encoded-part}
 use borrow.Author.Needs.{needs}
 use Rattle.kangarootwelve.proofs.tree.finalize.Statement.{statement}
 use Rattle.kangarootwelve.proofs.tree.finalize.Tie as tie
-use Rattle.kangarootwelve.proofs.tree.finalize.Reads as reads
-use Rattle.kangarootwelve.proofs.tree.finalize.Lts as lts
-use Rattle.kangarootwelve.proofs.encode.length_encode.Reads as length-encode-reads
-use Rattle.kangarootwelve.proofs.tree.absorb.Reads as absorb-reads
-use Rattle.kangarootwelve.proofs.tree.close.Reads as close-reads
 
 absorb-requires : tie.Need-absorb-requires
 absorb-requires c κs = search needs

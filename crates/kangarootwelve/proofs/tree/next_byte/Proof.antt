@@ -4,9 +4,6 @@ use Rattle.kangarootwelve.specs.Published.{chunk}
 use borrow.Author.Needs.{needs}
 use Rattle.kangarootwelve.proofs.tree.next_byte.Statement.{statement}
 use Rattle.kangarootwelve.proofs.tree.next_byte.Tie as tie
-use Rattle.kangarootwelve.proofs.tree.next_byte.Reads as reads
-use Rattle.kangarootwelve.proofs.tree.next_byte.Lts as lts
-use Rattle.kangarootwelve.proofs.tree.end_chunk.Reads as end-chunk-reads
 
 end-chunk-requires : tie.Need-end-chunk-requires
 end-chunk-requires c κs = search needs

@@ -3,8 +3,6 @@ use mathlib.Core.Path.{sym}
 use Rattle.keccak.proofs.Bytes.{byte-is}
 use Rattle.sponge.proofs.block.byte_of.Statement.{statement}
 use Rattle.sponge.proofs.block.byte_of.Tie as tie
-use Rattle.sponge.proofs.block.byte_of.Reads as reads
-use Rattle.sponge.proofs.block.byte_of.Lts as lts
 
 mul-s : tie.Need-mul-s
 mul-s c = search needs

@@ -5,8 +5,6 @@ use lib.ListN.{length-set}
 use Rattle.sponge.specs.Words.{withWord}
 use Rattle.sponge.proofs.block.put_word.Statement.{statement}
 use Rattle.sponge.proofs.block.put_word.Tie as tie
-use Rattle.sponge.proofs.block.put_word.Reads as reads
-use Rattle.sponge.proofs.block.put_word.Lts as lts
 
 cast-out : tie.Need-cast-out
 cast-out c = search needs

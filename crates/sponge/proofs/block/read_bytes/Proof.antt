@@ -6,9 +6,6 @@ use Rattle.sponge.specs.Published.{bytesFrom}
 use Rattle.sponge.proofs.Output.{write-step, write-all}
 use Rattle.sponge.proofs.block.read_bytes.Statement.{statement}
 use Rattle.sponge.proofs.block.read_bytes.Tie as tie
-use Rattle.sponge.proofs.block.read_bytes.Reads as reads
-use Rattle.sponge.proofs.block.read_bytes.Lts as lts
-use Rattle.sponge.proofs.block.byte_of.Reads as byte-of-reads
 
 abbrev Inv-loop : tie.InvT-loop
 Inv-loop lanes at out₀ i₀ out i = (i ≤ length out) × (length out ≡ length out₀) × (take i out ≡ bytesFrom lanes at i)

@@ -10,10 +10,6 @@ use Rattle.sponge.proofs.Output.{put-rest}
 use Rattle.sponge.proofs.Published.{length-bytesFrom}
 use Rattle.sponge.proofs.block.read_part.Statement.{statement}
 use Rattle.sponge.proofs.block.read_part.Tie as tie
-use Rattle.sponge.proofs.block.read_part.Reads as reads
-use Rattle.sponge.proofs.block.read_part.Lts as lts
-use Rattle.sponge.proofs.block.read_bytes.Reads as read-bytes-reads
-use Rattle.sponge.proofs.block.read_words.Reads as read-words-reads
 
 sub-h : tie.Need-sub-h
 sub-h c = search needs

@@ -9,10 +9,6 @@ use Rattle.sponge.specs.Published.{bytesFrom}
 use Rattle.sponge.proofs.Output.{write-word, length-withWord, put-rest}
 use Rattle.sponge.proofs.block.read_words.Statement.{statement}
 use Rattle.sponge.proofs.block.read_words.Tie as tie
-use Rattle.sponge.proofs.block.read_words.Reads as reads
-use Rattle.sponge.proofs.block.read_words.Lts as lts
-use Rattle.sponge.proofs.block.put_word.Reads as put-word-reads
-use Rattle.sponge.proofs.block.read_bytes.Reads as read-bytes-reads
 
 abbrev Inv-loop : tie.InvT-loop
 Inv-loop lanes first out₀ q₀ i₀ out q i = (i + 8 * first ≡ 8 * q) × (i ≤ length out) × (length out ≡ length out₀) × (take i out ≡ bytesFrom lanes (8 * first) i)

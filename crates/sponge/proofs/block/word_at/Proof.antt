@@ -3,9 +3,6 @@ use Rattle.sponge.proofs.Words.{word-sum}
 use borrow.Author.Needs.{needs}
 use Rattle.sponge.proofs.block.word_at.Statement.{statement}
 use Rattle.sponge.proofs.block.word_at.Tie as tie
-use Rattle.sponge.proofs.block.word_at.Reads as reads
-use Rattle.sponge.proofs.block.word_at.Lts as lts
-use Rattle.sponge.proofs.block.wide.Reads as wide-reads
 
 shared-slice-read-wide : tie.Need-shared-slice-read-wide
 shared-slice-read-wide c = search needs

@@ -6,9 +6,6 @@ use Rattle.keccak.specs.State.{word}
 use Rattle.sponge.proofs.Words.{word-fits, word-more, word-done}
 use Rattle.sponge.proofs.block.word_of.Statement.{statement}
 use Rattle.sponge.proofs.block.word_of.Tie as tie
-use Rattle.sponge.proofs.block.word_of.Reads as reads
-use Rattle.sponge.proofs.block.word_of.Lts as lts
-use Rattle.sponge.proofs.block.wide.Reads as wide-reads
 
 abbrev Inv-loop : tie.InvT-loop
 Inv-loop s i₀ w₀ i w = (i ≤ length s) × (w ≡ word (drop i s))

@@ -2,9 +2,6 @@ use borrow.Author.Needs.{needs}
 use Rattle.sponge.proofs.Words.{byte-shifted}
 use Rattle.sponge.proofs.block.xor_byte.Statement.{statement}
 use Rattle.sponge.proofs.block.xor_byte.Tie as tie
-use Rattle.sponge.proofs.block.xor_byte.Reads as reads
-use Rattle.sponge.proofs.block.xor_byte.Lts as lts
-use Rattle.sponge.proofs.block.wide.Reads as wide-reads
 
 mul-s : tie.Need-mul-s
 mul-s c = search needs

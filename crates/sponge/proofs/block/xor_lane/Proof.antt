@@ -3,9 +3,6 @@ use Rattle.sponge.proofs.Words.{lane-shifted}
 use borrow.Author.Needs.{needs}
 use Rattle.sponge.proofs.block.xor_lane.Statement.{statement}
 use Rattle.sponge.proofs.block.xor_lane.Tie as tie
-use Rattle.sponge.proofs.block.xor_lane.Reads as reads
-use Rattle.sponge.proofs.block.xor_lane.Lts as lts
-use Rattle.sponge.proofs.block.word_of.Reads as word-of-reads
 
 mul-shift : tie.Need-mul-shift
 mul-shift c = search needs

@@ -10,10 +10,6 @@ use Rattle.sponge.specs.Published.{xorByte}
 use Rattle.sponge.proofs.Words.{rest-part, puts-parts}
 use Rattle.sponge.proofs.block.xor_part.Statement.{statement}
 use Rattle.sponge.proofs.block.xor_part.Tie as tie
-use Rattle.sponge.proofs.block.xor_part.Reads as reads
-use Rattle.sponge.proofs.block.xor_part.Lts as lts
-use Rattle.sponge.proofs.block.xor_lane.Reads as xor-lane-reads
-use Rattle.sponge.proofs.block.xor_words.Reads as xor-words-reads
 
 sub-h : tie.Need-sub-h
 sub-h c = search needs

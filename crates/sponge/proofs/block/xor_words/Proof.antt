@@ -8,10 +8,6 @@ use Rattle.sponge.specs.Published.{xorByte}
 use Rattle.sponge.proofs.Words.{word-step, xorLane, rest-part, puts-done}
 use Rattle.sponge.proofs.block.xor_words.Statement.{statement}
 use Rattle.sponge.proofs.block.xor_words.Tie as tie
-use Rattle.sponge.proofs.block.xor_words.Reads as reads
-use Rattle.sponge.proofs.block.xor_words.Lts as lts
-use Rattle.sponge.proofs.block.word_at.Reads as word-at-reads
-use Rattle.sponge.proofs.block.xor_lane.Reads as xor-lane-reads
 
 abbrev Inv-loop : tie.InvT-loop
 Inv-loop lanes₀ first s q₀ i₀ lanes q i =

@@ -3,9 +3,6 @@ use Rattle.turboshake.specs.Model.{Answer}
 use borrow.Author.Needs.{needs}
 use Rattle.turboshake.proofs.TurboShake128.absorb.Statement.{statement}
 use Rattle.turboshake.proofs.TurboShake128.absorb.Tie as tie
-use Rattle.turboshake.proofs.TurboShake128.absorb.Reads as reads
-use Rattle.turboshake.proofs.TurboShake128.absorb.Lts as lts
-use Rattle.turboshake.proofs.calls.absorb.Reads as absorb-reads
 
 absorb-requires : tie.Need-absorb-requires
 absorb-requires c κs = search needs

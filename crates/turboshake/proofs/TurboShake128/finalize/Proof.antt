@@ -3,9 +3,6 @@ use Rattle.turboshake.specs.Model.{Answer}
 use borrow.Author.Needs.{needs}
 use Rattle.turboshake.proofs.TurboShake128.finalize.Statement.{statement}
 use Rattle.turboshake.proofs.TurboShake128.finalize.Tie as tie
-use Rattle.turboshake.proofs.TurboShake128.finalize.Reads as reads
-use Rattle.turboshake.proofs.TurboShake128.finalize.Lts as lts
-use Rattle.turboshake.proofs.calls.finalize.Reads as finalize-reads
 
 finalize-requires : tie.Need-finalize-requires
 finalize-requires c κs = search needs

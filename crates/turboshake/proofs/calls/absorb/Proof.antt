@@ -14,11 +14,6 @@ use Rattle.turboshake.specs.declared.Moved.{Moved}
 use Rattle.turboshake.proofs.Cases.{fits, status-5, absorb-3, absorb-2, absorb-0, answer-refused, absorb-answer}
 use Rattle.turboshake.proofs.calls.absorb.Statement.{statement}
 use Rattle.turboshake.proofs.calls.absorb.Tie as tie
-use Rattle.turboshake.proofs.calls.absorb.Reads as reads
-use Rattle.turboshake.proofs.calls.absorb.Lts as lts
-use Rattle.sponge.proofs.absorb.Reads as absorb-reads
-use Rattle.turboshake.proofs.calls.is_reachable.Reads as is-reachable-reads
-use Rattle.turboshake.proofs.calls.refused.Reads as refused-reads
 
 -- past the first test the run is one that 5 does not refuse
 was : (c : tie.Else1) → reachable (c .before .before .before .args .rate) (c .before .before .before .args .position) (c .before .before .before .args .phase) (c .before .before .before .args .absorbed) (c .before .before .before .args .squeezed) ≡ true

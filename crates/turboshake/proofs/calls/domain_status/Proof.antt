@@ -2,8 +2,6 @@ use borrow.Author.Tests.{le-leb, lt-leb}
 use Rattle.turboshake.specs.Transcript.{domainStatus}
 use Rattle.turboshake.proofs.calls.domain_status.Statement.{statement}
 use Rattle.turboshake.proofs.calls.domain_status.Tie as tie
-use Rattle.turboshake.proofs.calls.domain_status.Reads as reads
-use Rattle.turboshake.proofs.calls.domain_status.Lts as lts
 
 returns : tie.Need-returns
 unfolding domainStatus

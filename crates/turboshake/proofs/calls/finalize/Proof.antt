@@ -13,12 +13,6 @@ use Rattle.turboshake.specs.declared.Moved.{Moved}
 use Rattle.turboshake.proofs.Cases.{fits, status-5, finalize-3, finalize-d, answer-refused, answer-other, finalize-answer}
 use Rattle.turboshake.proofs.calls.finalize.Statement.{statement}
 use Rattle.turboshake.proofs.calls.finalize.Tie as tie
-use Rattle.turboshake.proofs.calls.finalize.Reads as reads
-use Rattle.turboshake.proofs.calls.finalize.Lts as lts
-use Rattle.sponge.proofs.pad.Reads as pad-reads
-use Rattle.turboshake.proofs.calls.domain_status.Reads as domain-status-reads
-use Rattle.turboshake.proofs.calls.is_reachable.Reads as is-reachable-reads
-use Rattle.turboshake.proofs.calls.refused.Reads as refused-reads
 
 -- past the first test the run is one that 5 does not refuse
 was : (c : tie.Else1) → reachable (c .before .before .args .rate) (c .before .before .args .position) (c .before .before .args .phase) (c .before .before .args .absorbed) (c .before .before .args .squeezed) ≡ true

@@ -5,8 +5,6 @@ use Rattle.sponge.proofs.Valid.{zero-lanes}
 use Rattle.turboshake.specs.Model.{freshOf, machine}
 use Rattle.turboshake.proofs.calls.fresh.Statement.{statement}
 use Rattle.turboshake.proofs.calls.fresh.Tie as tie
-use Rattle.turboshake.proofs.calls.fresh.Reads as reads
-use Rattle.turboshake.proofs.calls.fresh.Lts as lts
 
 returns : tie.Need-returns
 unfolding freshOf machine

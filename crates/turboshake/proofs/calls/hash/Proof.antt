@@ -4,12 +4,6 @@ use Rattle.turboshake.proofs.OneGo.{hash-refused, hash-written, row-don
 use borrow.Author.Needs.{needs}
 use Rattle.turboshake.proofs.calls.hash.Statement.{statement}
 use Rattle.turboshake.proofs.calls.hash.Tie as tie
-use Rattle.turboshake.proofs.calls.hash.Reads as reads
-use Rattle.turboshake.proofs.calls.hash.Lts as lts
-use Rattle.sponge.proofs.absorb.Reads as absorb-reads
-use Rattle.sponge.proofs.pad.Reads as pad-reads
-use Rattle.sponge.proofs.squeeze.Reads as squeeze-reads
-use Rattle.turboshake.proofs.calls.hash_status.Reads as hash-status-reads
 
 hash-status-requires : tie.Need-hash-status-requires
 hash-status-requires c κs = search needs

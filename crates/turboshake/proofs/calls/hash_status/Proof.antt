@@ -4,9 +4,6 @@ use Rattle.turboshake.proofs.OneGo.{hash-1, hash-2, hash-7, hash-6, has
 use borrow.Author.Needs.{needs}
 use Rattle.turboshake.proofs.calls.hash_status.Statement.{statement}
 use Rattle.turboshake.proofs.calls.hash_status.Tie as tie
-use Rattle.turboshake.proofs.calls.hash_status.Reads as reads
-use Rattle.turboshake.proofs.calls.hash_status.Lts as lts
-use Rattle.turboshake.proofs.calls.domain_status.Reads as domain-status-reads
 
 -- past the first test D is taken
 taken : (c : tie.Else1) → domainStatus (c .before .before .args .domain) ≡ 0

@@ -3,9 +3,6 @@ use Rattle.turboshake.specs.Model.{reachable}
 use borrow.Author.Needs.{needs}
 use Rattle.turboshake.proofs.calls.is_reachable.Statement.{statement}
 use Rattle.turboshake.proofs.calls.is_reachable.Tie as tie
-use Rattle.turboshake.proofs.calls.is_reachable.Reads as reads
-use Rattle.turboshake.proofs.calls.is_reachable.Lts as lts
-use Rattle.turboshake.proofs.calls.position_after.Reads as position-after-reads
 
 returns : tie.Need-returns
 unfolding reachable

@@ -5,8 +5,6 @@ use native.Mathlib.Omega.{arith}
 use borrow.Author.Needs.{needs}
 use Rattle.turboshake.proofs.calls.position_after.Statement.{statement}
 use Rattle.turboshake.proofs.calls.position_after.Tie as tie
-use Rattle.turboshake.proofs.calls.position_after.Reads as reads
-use Rattle.turboshake.proofs.calls.position_after.Lts as lts
 
 returns : tie.Need-returns
 returns c = search needs

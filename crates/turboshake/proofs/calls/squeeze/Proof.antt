@@ -15,11 +15,6 @@ use Rattle.turboshake.specs.declared.Moved.{Moved}
 use Rattle.turboshake.proofs.Cases.{fits, status-5, squeeze-3, squeeze-6, squeeze-0, answer-refused, output-refused, squeeze-answer, squeeze-written}
 use Rattle.turboshake.proofs.calls.squeeze.Statement.{statement}
 use Rattle.turboshake.proofs.calls.squeeze.Tie as tie
-use Rattle.turboshake.proofs.calls.squeeze.Reads as reads
-use Rattle.turboshake.proofs.calls.squeeze.Lts as lts
-use Rattle.sponge.proofs.squeeze.Reads as squeeze-reads
-use Rattle.turboshake.proofs.calls.is_reachable.Reads as is-reachable-reads
-use Rattle.turboshake.proofs.calls.refused.Reads as refused-reads
 
 -- past the first test the run is one that 5 does not refuse
 was : (c : tie.Else1) → reachable (c .before .before .before .args .rate) (c .before .before .before .args .position) (c .before .before .before .args .phase) (c .before .before .before .args .absorbed) (c .before .before .before .args .squeezed) ≡ true
