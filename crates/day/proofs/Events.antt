@@ -4,11 +4,12 @@ use mathlib.Core.Path.{_≡_, sym, ap, _∙_}
 use mathlib.Core.List.{List, [], _∷_, _++_, append-nil, append-assoc}
 use Prim.Native.Nat.{ℕ, _≤_, zero-le}
 use lib.ListN.{length}
-use Rattle.sponge.specs.Transcript.{Call.absorb, Call.finalize, Call.squeeze, lent}
+use Rattle.sponge.specs.Transcript.{Call.absorb, Call.finalize, Call.squeeze}
 use Rattle.sponge.specs.Streaming.{joined}
 use Rattle.turboshake.specs.Transcript.{limit}
 use Rattle.kangarootwelve.specs.Published.{kt128}
 use Rattle.kangarootwelve.specs.Model.{hashStatus, hashOutput}
+use Rattle.kangarootwelve.proofs.Answers.{hash-done}
 use Rattle.journal.specs.Model.{freshDay, answerOf, outputOf}
 use Rattle.journal.specs.declared.Journal.{Journal}
 use Rattle.journal.specs.declared.Answer.{Answer}
@@ -53,5 +54,4 @@ put-next es e h q = q ∙ ap (λ (l : List ℕ). l ++ e) h ∙ sym (joined-next 
 -- the bytes m hashed in one go, which are the joined events; s and o are the call's status and output
 pub hash-joined : (m name out : List ℕ) (s : ℕ) (o : List ℕ) (es : List (List ℕ)) → m ≡ joined es → s ≡ hashStatus (length m) (length name) (length out) → o ≡ hashOutput 168 32 m name out
     → s ≡ 0 → o ≡ kt128 (joined es) name (length out)
-unfolding hashOutput
-hash-joined m name out s o es h v u w = u ∙ ap (λ (n : ℕ). lent n (kt128 m name (length out)) out) (sym v ∙ w) ∙ ap (λ (l : List ℕ). kt128 l name (length out)) h
+hash-joined m name out s o es h v u w = u ∙ hash-done 168 32 m name out (sym v ∙ w) ∙ ap (λ (l : List ℕ). kt128 l name (length out)) h

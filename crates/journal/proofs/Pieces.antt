@@ -1,7 +1,7 @@
 -- What a caller knows of calls in a row on days: where each is answered 0, the day has taken the events' joined bytes, and its digest is
 -- the published one.
 -- Assumes nothing.
-use mathlib.Core.Path.{_≡_, refl, sym, ap, _∙_}
+use mathlib.Core.Path.{_≡_, sym, ap, _∙_}
 use mathlib.Core.List.{List, [], _++_}
 use Prim.Native.Nat.{ℕ, _+_, _≤_, zero-le}
 use native.Mathlib.Nat.{zero-add}
@@ -20,7 +20,6 @@ use Rattle.kangarootwelve.proofs.Answers.{limits-are, output-published}
 use Rattle.journal.specs.Transcript.{rules}
 use Rattle.journal.specs.Model.{dayOf, freshDay, answerOf, outputOf}
 use Rattle.journal.specs.declared.Journal.{Journal}
-use Rattle.journal.specs.declared.Answer.{Answer}
 use Rattle.journal.proofs.Streaming.{laws}
 
 -- a call on the run of a transcript within the limits: where it is answered 0, it did what the transcript writes
@@ -50,8 +49,8 @@ unfoldable pub dayEnded : List ℕ → List ℕ → Journal
 dayEnded m name = dayOf (runOf rules (machine 168 32) (told m (squeezing name)))
 
 pub fresh-after : freshDay ≡ dayAfter []
-unfolding freshDay dayAfter machine
-fresh-after = refl
+unfolding freshDay dayAfter
+fresh-after = ap (λ (s : Nodes). dayOf (record { state = s; phase = 0; absorbed = 0; squeezed = 0 })) (sym (laws .absorb-nothing 0 (machine 168 32 .fresh)))
 
 pub append-taken : (m e : List ℕ) → length m ≤ limit → answerOf (dayAfter m) (absorb e) .status ≡ 0
     → (length (m ++ e) ≤ limit) × (answerOf (dayAfter m) (absorb e) .journal ≡ dayAfter (m ++ e))

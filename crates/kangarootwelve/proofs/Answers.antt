@@ -1,6 +1,6 @@
 -- The words of the contracts, for crates above: each is the generic run's, in the code's structs.
 -- Assumes nothing.
-use mathlib.Core.Path.{_≡_, refl}
+use mathlib.Core.Path.{_≡_, refl, sym}
 use mathlib.Core.List.{List}
 use Prim.Native.Nat.{ℕ}
 use lib.ListN.{length}
@@ -9,8 +9,9 @@ use Rattle.sponge.specs.Runs.{freshRun, perform}
 use Rattle.turboshake.specs.Transcript.{limit}
 use Rattle.kangarootwelve.specs.Published.{kt}
 use Rattle.kangarootwelve.specs.Transcript.{customizationStatus, rules}
-use Rattle.kangarootwelve.specs.Model.{machine, seen, held, freshOf, answerOf, outputOf}
+use Rattle.kangarootwelve.specs.Model.{machine, seen, held, freshOf, answerOf, outputOf, hashStatus, hashOutput}
 use Rattle.kangarootwelve.specs.declared.Run.{Run}
+use Rattle.kangarootwelve.proofs.OneGo.{hash-written}
 
 module _ (rate chaining : ℕ) where
   pub fresh-is : freshOf rate chaining ≡ held (freshRun (rules rate chaining) (machine rate chaining))
@@ -44,3 +45,7 @@ module _ (rate chaining : ℕ) where
   pub output-published : (m c : List ℕ) (n : ℕ) → rules rate chaining .output m c n ≡ kt rate chaining m c n
   unfolding rules
   output-published m c n = refl
+
+  -- a call in one go that is done wrote the published function
+  pub hash-done : (m c out : List ℕ) → hashStatus (length m) (length c) (length out) ≡ 0 → hashOutput rate chaining m c out ≡ kt rate chaining m c (length out)
+  hash-done m c out e = sym (hash-written rate chaining m c out e)

@@ -15,7 +15,8 @@ use Rattle.kangarootwelve.specs.Transcript.{customizationLimit, customiz
 use Rattle.kangarootwelve.specs.Model.{Nodes, machine, held, freshOf, Answer, answerOf, outputOf, hashStatus, hashOutput}
 use Rattle.kangarootwelve.specs.declared.Run.{Run}
 use Rattle.kangarootwelve.proofs.Laws.{laws}
-use Rattle.kangarootwelve.proofs.OneGo.{hash-0, hash-written}
+use Rattle.kangarootwelve.proofs.OneGo.{hash-0}
+use Rattle.kangarootwelve.proofs.Answers.{hash-done}
 
 -- C is taken up to 65,535 bytes, and no longer one is
 pub customization-taken : (n : ℕ) → n ≤ customizationLimit → customizationStatus n ≡ 0
@@ -75,4 +76,4 @@ module _ (rate chaining : ℕ) (pos : 0 < rate) where
       → (hashStatus (length m) (length c) (length out) ≡ 0) × (hashOutput rate chaining m c out ≡ kt rate chaining m c (length out))
   hash-run m c out f g some h =
       let e = hash-0 (length m) (length c) (length out) f g (λ z. omega arith) h in
-      (sym e, sym (hash-written rate chaining m c out (sym e)))
+      (sym e, hash-done rate chaining m c out (sym e))
