@@ -1,5 +1,5 @@
--- What the transcript of a day, document 01's book, says: KT128's, whose customization string is the station's name and whose pieces are
--- the day's events.
+-- What the transcript of a day, document 01's book, says: KT128's, whose customization string is the station's name. Appending an event is
+-- an absorb of its bytes, with nothing before or after them: the digest of a day is kt128 of the joined events and the name.
 -- Assumes nothing.
 use mathlib.Core.List.{List}
 use mathlib.Core.Bool.{cond}
@@ -7,7 +7,7 @@ use Prim.Native.Nat.{ℕ}
 use lib.Dec.{leb}
 use Rattle.sponge.specs.Status.{done, eventTooLong}
 use Rattle.sponge.specs.Transcript.{Rules, withPieces}
-use Rattle.kangarootwelve.specs.Transcript as kt
+use Rattle.kangarootwelve.specs.Transcript as kangarootwelve
 
 -- the most bytes of an event
 abbrev pub eventLimit : ℕ
@@ -17,6 +17,6 @@ eventLimit = 65535
 unfoldable pub eventStatus : ℕ → ℕ
 eventStatus n = cond (leb n eventLimit) done eventTooLong
 
--- KT128, with 8 for a long event: after 5 and 3, before 2
+-- KT128 (rate 168, chaining values of 32 bytes), with 8 for a long event; `statusOf` has a piece's own status after 3 and before 2
 unfoldable pub rules : Rules (List ℕ)
-rules = withPieces (kt.rules 168 32) eventStatus
+rules = withPieces (kangarootwelve.rules 168 32) eventStatus

@@ -23,7 +23,7 @@ use Rattle.sponge.proofs.Streaming.{cond-zero, Fits, Laws}
 use Rattle.sponge.proofs.Joining.{Stays}
 use Rattle.sponge.proofs.Reachable.{Shape}
 use Rattle.turboshake.specs.Transcript.{limit}
-use Rattle.kangarootwelve.specs.Published.{chunk, marker, lengthEncode, merged, intermediateNode, kt}
+use Rattle.kangarootwelve.specs.Published.{chunk, marker, lengthEncode, merged, intermediateDomain, kt}
 use Rattle.kangarootwelve.specs.Transcript.{rules}
 use Rattle.kangarootwelve.specs.Tree.{Tree, putByte, endChunk, absorbTree, closeTree, finalizeTree}
 use Rattle.kangarootwelve.specs.Model.{Nodes, nodesOf, treeAt, finalCount, leafCount, finalDue, leafDue, reachable, machine}
@@ -155,8 +155,8 @@ module _ (rate chaining : ℕ) where
     places-end (suc k) t h = rw (h .index-is) record {
       index-is = refl;
       final-is =
-          absorb-to (chunk + 8 + k * chaining) (chunk + 8 + suc k * chaining) (t .final) (squeezeBytes permuted rate chaining (pad permuted rate (t .leaf) intermediateNode)) (h .final-is)
-          (omega (arith, length-squeeze permuted rate pos chaining (pad permuted rate (t .leaf) intermediateNode)));
+          absorb-to (chunk + 8 + k * chaining) (chunk + 8 + suc k * chaining) (t .final) (squeezeBytes permuted rate chaining (pad permuted rate (t .leaf) intermediateDomain)) (h .final-is)
+          (omega (arith, length-squeeze permuted rate pos chaining (pad permuted rate (t .leaf) intermediateDomain)));
       leaf-is = refl;
     }
 

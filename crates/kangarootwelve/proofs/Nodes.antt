@@ -17,7 +17,7 @@ use Rattle.sponge.specs.Model.{Sponge, fresh, absorbBytes, pad, squeezeBytes, O
 use Rattle.sponge.proofs.Waiting.{steps-append, steps-part}
 use Rattle.sponge.proofs.Position.{steps-position}
 use Rattle.sponge.proofs.Valid.{fits-valid, absorb-done, pad-done, output-done, zero-lanes, pad-position}
-use Rattle.kangarootwelve.specs.Published.{chunk, marker, trailer, lengthEncode, intermediateNode, singleNode, finalNode}
+use Rattle.kangarootwelve.specs.Published.{chunk, marker, trailer, lengthEncode, intermediateDomain, singleDomain, finalDomain}
 use Rattle.kangarootwelve.specs.Tree.{Tree, putTo, putByte, ending, endChunk, absorbTree, closeTo}
 use Rattle.kangarootwelve.specs.Inside.{Fits}
 use Rattle.kangarootwelve.proofs.Published.{chunk-pos, puts-is, close-position}
@@ -142,24 +142,24 @@ module _ (rate : ℕ) (pos : 0 < rate) where
       marked-row node leaf i o z h e = rw (z, absorbed-is node marker o h e, fresh-is)
 
       pub valued-row : (node leaf s : Sponge) (i : ℕ) (v : List ℕ) → (i ≡ 0 → ⊥) → length v ≡ chaining
-          → s ≡ absorbBytes permuted rate node (squeezeBytes permuted rate (length v) (pad permuted rate leaf intermediateNode))
+          → s ≡ absorbBytes permuted rate node (squeezeBytes permuted rate (length v) (pad permuted rate leaf intermediateDomain))
           → record { final = s; leaf = record { value = replicate 25 0; position = 0 }; index = i + 1 } ≡ endChunk rate chaining (record { final = node; leaf = leaf; index = i })
       valued-row node leaf s zero v h l e = absurd (h refl)
       valued-row node leaf s (suc k) v h l e = rw (e, l, fresh-is, add-one)
 
       -- ---- the close
 
-      pub single-row : (node leaf : Sponge) (i : ℕ) (o : Outcome) → i ≡ 0 → node .position ≤ rate → o ≡ padCall permuted rate node singleNode → o .state ≡ closeTo rate chaining i node leaf
-      single-row node leaf i o z h e = padded-is node singleNode o h e ∙ rw z
+      pub single-row : (node leaf : Sponge) (i : ℕ) (o : Outcome) → i ≡ 0 → node .position ≤ rate → o ≡ padCall permuted rate node singleDomain → o .state ≡ closeTo rate chaining i node leaf
+      single-row node leaf i o z h e = padded-is node singleDomain o h e ∙ rw z
 
       -- s is the final node after the last chaining value; the count of leaves, the trailer and the padding follow
       pub final-row : (node leaf s : Sponge) (i : ℕ) (v : List ℕ) (count : List ℕ) (o p q : Outcome) → (i ≡ 0 → ⊥) → node .position ≤ rate → length v ≡ chaining
-          → s ≡ absorbBytes permuted rate node (squeezeBytes permuted rate (length v) (pad permuted rate leaf intermediateNode)) → count ≡ lengthEncode i
-          → o ≡ absorbCall permuted rate s count → p ≡ absorbCall permuted rate (o .state) trailer → q ≡ padCall permuted rate (p .state) finalNode
+          → s ≡ absorbBytes permuted rate node (squeezeBytes permuted rate (length v) (pad permuted rate leaf intermediateDomain)) → count ≡ lengthEncode i
+          → o ≡ absorbCall permuted rate s count → p ≡ absorbCall permuted rate (o .state) trailer → q ≡ padCall permuted rate (p .state) finalDomain
           → q .state ≡ closeTo rate chaining i node leaf
       final-row node leaf s zero v count o p q h g l e n counts ends pads = absurd (h refl)
       final-row node leaf s (suc k) v count o p q h g l e n counts ends pads =
-          let value : List ℕ = squeezeBytes permuted rate chaining (pad permuted rate leaf intermediateNode) in
+          let value : List ℕ = squeezeBytes permuted rate chaining (pad permuted rate leaf intermediateDomain) in
           let s-is : s ≡ absorbBytes permuted rate node value = e ∙ rw l in
           let s-in : s .position ≤ rate = rw s-is (absorb-in node value g) in
           let o-is : o .state ≡ absorbBytes permuted rate s count = absorbed-is s count o s-in counts in
@@ -168,7 +168,7 @@ module _ (rate : ℕ) (pos : 0 < rate) where
           let p-in : p .state .position ≤ rate = rw p-is (absorb-in (o .state) trailer o-in) in
           let whole : p .state ≡ absorbBytes permuted rate node (value ++ lengthEncode (suc k) ++ trailer) =
           p-is ∙ rw (o-is, s-is, n) (sym (steps-append permuted xorByte rate node (value ++ lengthEncode (suc k)) trailer ∙ rw (steps-append permuted xorByte rate node value (lengthEncode (suc k))))) in
-          padded-is (p .state) finalNode q p-in pads ∙ ap (λ (u : Sponge). pad permuted rate u finalNode) whole
+          padded-is (p .state) finalDomain q p-in pads ∙ ap (λ (u : Sponge). pad permuted rate u finalDomain) whole
 
       pub closed : (s node leaf : Sponge) (i : ℕ) → s ≡ closeTo rate chaining i node leaf → record { value = s .value; position = 0 } ≡ closeTo rate chaining i node leaf
       closed s node leaf i e =

@@ -20,7 +20,7 @@ use Rattle.turboshake.specs.Transcript.{limit}
 use Rattle.turboshake.specs.Model.{hashAtOutput}
 use Rattle.turboshake.proofs.Published.{squeeze-turboshake}
 use Rattle.turboshake.proofs.AtRate.{at-written}
-use Rattle.kangarootwelve.specs.Published.{chunk, marker, lengthEncode, merged, intermediateNode, kt}
+use Rattle.kangarootwelve.specs.Published.{chunk, marker, lengthEncode, merged, intermediateDomain, kt}
 use Rattle.kangarootwelve.specs.Transcript.{customizationLimit, customizationStatus}
 use Rattle.kangarootwelve.specs.Tree.{Tree, freshTree, putByte, ending, endChunk, absorbTree, closeTree, finalizeTree}
 use Rattle.kangarootwelve.specs.Model.{hashStatus, hashOutput}
@@ -96,11 +96,11 @@ part-chunk i m = let e : i * 8192 + 8192 - i * 8192 ≡ 8192 = omega arith in rw
 module _ (rate : ℕ) (pos : 0 < rate) (most : rate ≤ 200) where
   -- v is what the leaf hash wrote into a lent value of the length of w
   pub leaf-row : (node : Sponge) (p v w : List ℕ) (o : Outcome) → node .position ≤ rate → length p ≤ 8192 → 0 < length w → length w ≤ 64
-      → v ≡ hashAtOutput rate p intermediateNode w → o ≡ absorbCall permuted rate node v
-      → o .state ≡ absorbBytes permuted rate node (turboshake rate p intermediateNode (length w))
+      → v ≡ hashAtOutput rate p intermediateDomain w → o ≡ absorbCall permuted rate node v
+      → o .state ≡ absorbBytes permuted rate node (turboshake rate p intermediateDomain (length w))
   leaf-row node p v w o h l some few hashes absorbs =
       absorbed-is rate pos most node v o h absorbs
-      ∙ ap (absorbBytes permuted rate node) (hashes ∙ at-written rate pos most p intermediateNode w (omega arith) (omega arith) (omega arith) some (omega arith))
+      ∙ ap (absorbBytes permuted rate node) (hashes ∙ at-written rate pos most p intermediateDomain w (omega arith) (omega arith) (omega arith) some (omega arith))
 
   module _ (chaining : ℕ) where
     pub first-chunk : (node : Sponge) (i : ℕ) (p : List ℕ) (o q : Outcome) → i ≡ 0 → node .position ≤ rate → o ≡ absorbCall permuted rate node p → q ≡ absorbCall permuted rate (o .state) marker
@@ -110,10 +110,10 @@ module _ (rate : ℕ) (pos : 0 < rate) (most : rate ≤ 200) where
         let o-in : o .state .position ≤ rate = rw o-is (absorb-in rate pos node p h) in
         rw (absorbed-is rate pos most (o .state) marker q o-in marks, o-is, z)
 
-    pub later-chunk : (node s : Sponge) (i : ℕ) (p v : List ℕ) → (i ≡ 0 → ⊥) → length v ≡ chaining → s ≡ absorbBytes permuted rate node (turboshake rate p intermediateNode (length v))
+    pub later-chunk : (node s : Sponge) (i : ℕ) (p v : List ℕ) → (i ≡ 0 → ⊥) → length v ≡ chaining → s ≡ absorbBytes permuted rate node (turboshake rate p intermediateDomain (length v))
         → record { final = s; leaf = fresh; index = suc i } ≡ endedChunk rate chaining (record { final = node; leaf = fresh; index = i }) p
     later-chunk node s zero p v z l e = absurd (z refl)
-    later-chunk node s (suc k) p v z l e = rw (e, l, squeeze-turboshake rate pos p intermediateNode chaining)
+    later-chunk node s (suc k) p v z l e = rw (e, l, squeeze-turboshake rate pos p intermediateDomain chaining)
 
     pub ended-in : (t : Tree) (p : List ℕ) → t .final .position ≤ rate → endedChunk rate chaining t p .final .position ≤ rate
     ended-in t p h = by (t .index) (t .final) (t .leaf) h

@@ -17,7 +17,7 @@ use Rattle.sponge.proofs.Waiting.{Held, held, steps-append, walk, steps-pieces}
 use Rattle.sponge.proofs.Valid.{pad-position}
 use Rattle.turboshake.specs.Published.{turboshake}
 use Rattle.turboshake.proofs.Published.{squeeze-turboshake}
-use Rattle.kangarootwelve.specs.Published.{lengthEncode, merged, chunk, marker, trailer, singleNode, intermediateNode, finalNode, chainingValues, tree, kt}
+use Rattle.kangarootwelve.specs.Published.{lengthEncode, merged, chunk, marker, trailer, singleDomain, intermediateDomain, finalDomain, chainingValues, tree, kt}
 use Rattle.kangarootwelve.specs.Tree.{Tree, freshTree, putTo, putByte, endChunk, absorbTree, closeTo, closeTree}
 
 pub chunk-is : chunk ≡ 8192
@@ -78,29 +78,29 @@ module _ (rate chaining : ℕ) where
   module _ (pos : 0 < rate) where
     pub end-leaf : (k : ℕ) (f : Sponge) (p : List ℕ)
         → endChunk rate chaining (puts Put (record { final = f; leaf = fresh; index = suc k }) 0 p)
-        ≡ record { final = absorbBytes permuted rate f (turboshake rate p intermediateNode chaining); leaf = fresh; index = suc (suc k) }
-    end-leaf k f p = rw (in-leaf k f fresh 0 p, squeeze-turboshake rate pos p intermediateNode chaining)
+        ≡ record { final = absorbBytes permuted rate f (turboshake rate p intermediateDomain chaining); leaf = fresh; index = suc (suc k) }
+    end-leaf k f p = rw (in-leaf k f fresh 0 p, squeeze-turboshake rate pos p intermediateDomain chaining)
 
     -- chunk suc k in hand and ps to come, with x in the final node
     leaves : (ps : List (List ℕ)) (k : ℕ) (x p : List ℕ)
         → closeTree rate chaining (Walk (record { final = absorbBytes permuted rate fresh x; leaf = fresh; index = suc k }) p ps)
-        ≡ pad permuted rate (absorbBytes permuted rate fresh (x ++ chainingValues rate chaining (p ∷ ps) ++ lengthEncode (suc k + length ps) ++ trailer)) finalNode
+        ≡ pad permuted rate (absorbBytes permuted rate fresh (x ++ chainingValues rate chaining (p ∷ ps) ++ lengthEncode (suc k + length ps) ++ trailer)) finalDomain
     leaves [] k x p =
-        rw (in-leaf k (absorbBytes permuted rate fresh x) fresh 0 p, squeeze-turboshake rate pos p intermediateNode chaining, ← steps-append permuted xorByte rate fresh x)
+        rw (in-leaf k (absorbBytes permuted rate fresh x) fresh 0 p, squeeze-turboshake rate pos p intermediateDomain chaining, ← steps-append permuted xorByte rate fresh x)
         (simp (append-assoc, append-nil, add-zero))
     leaves (q ∷ ps) k x p =
         ap (λ (t : Tree). closeTree rate chaining (Walk t q ps)) (end-leaf k (absorbBytes permuted rate fresh x) p
         ∙ rw (← steps-append permuted xorByte rate fresh x))
-        ∙ leaves ps (suc k) (x ++ turboshake rate p intermediateNode chaining) q
+        ∙ leaves ps (suc k) (x ++ turboshake rate p intermediateDomain chaining) q
         ∙ simp (append-assoc, suc-add, add-suc)
 
     -- all the chunks
     chunks : (n : ℕ) (p : List ℕ) (ps : List (List ℕ)) → squeezeBytes permuted rate n (closeTree rate chaining (Walk freshTree p ps)) ≡ tree rate chaining (p ∷ ps) n
-    chunks n p [] = rw (in-first fresh fresh 0 p) (squeeze-turboshake rate pos p singleNode n)
+    chunks n p [] = rw (in-first fresh fresh 0 p) (squeeze-turboshake rate pos p singleDomain n)
     chunks n p (q ∷ ps) =
         ap (λ (t : Tree). squeezeBytes permuted rate n (closeTree rate chaining (Walk t q ps))) (end-first fresh fresh p)
         ∙ ap (squeezeBytes permuted rate n) (leaves ps 0 (p ++ marker) q)
-        ∙ squeeze-turboshake rate pos (p ++ marker ++ chainingValues rate chaining (q ∷ ps) ++ lengthEncode (1 + length ps) ++ trailer) finalNode n
+        ∙ squeeze-turboshake rate pos (p ++ marker ++ chainingValues rate chaining (q ∷ ps) ++ lengthEncode (1 + length ps) ++ trailer) finalDomain n
         ∙ rw one-add
 
     tree-cut : (s : List ℕ) (n : ℕ) → Held chunk (length s)

@@ -19,7 +19,7 @@ inputStatus n = cond (leb n limit) done inputTooLong
 
 -- ---- the tag in one go
 
--- the status of a key, a message and a customization string of these lengths, and n bytes asked
+-- the status of a key, a message and a customization string of these lengths, and n bytes asked: 2, 4, 7, 6 in this order
 unfoldable pub macStatus : ℕ → ℕ → ℕ → ℕ → ℕ
 macStatus key m c n = firstOf (inputStatus key) (hashStatus m c n)
 
@@ -33,11 +33,11 @@ macOutput rate chaining inner key m c out = lent (macStatus (length key) (length
 abbrev pub tagLimit : ℕ
 tagLimit = 64
 
--- the status of a presented tag of n bytes
+-- the status of a presented tag of n bytes: 1 to 64 are taken
 abbrev pub tagStatus : ℕ → ℕ
 tagStatus n = cond (eqb n 0) badLength (cond (leb n tagLimit) done badLength)
 
--- the status of a key, a message, a customization string and a presented tag of these lengths
+-- the status of a key, a message, a customization string and a presented tag of these lengths: 2, 4, 7 in this order
 unfoldable pub checkStatus : ℕ → ℕ → ℕ → ℕ → ℕ
 checkStatus key m c t = firstOf (inputStatus key) (firstOf (inputStatus m) (firstOf (customizationStatus c) (tagStatus t)))
 

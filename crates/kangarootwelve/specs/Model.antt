@@ -55,10 +55,10 @@ leafDue rate n = positionAfter rate (leafCount (indexAfter chunk n) (positionAft
 -- what a run reached from a fresh one has: in phase 0 nothing is squeezed and the positions tell the bytes absorbed; in phase 1
 -- the final node's tells the bytes squeezed, and the leaf is fresh again; lanes are not looked at
 unfoldable pub reachable : ℕ → ℕ → ℕ → ℕ → ℕ → ℕ → ℕ → Bool
-reachable rate chaining final leaf phase absorbed squeezed =
+reachable rate chaining finalPosition leafPosition phase absorbed squeezed =
     leb absorbed limit
-    && cond (eqb phase 0) (eqb squeezed 0 && (eqb final (finalDue rate chaining absorbed) && eqb leaf (leafDue rate absorbed)))
-    (eqb phase 1 && (leb squeezed limit && (eqb final (positionAfter rate squeezed) && eqb leaf 0)))
+    && cond (eqb phase 0) (eqb squeezed 0 && (eqb finalPosition (finalDue rate chaining absorbed) && eqb leafPosition (leafDue rate absorbed)))
+    (eqb phase 1 && (leb squeezed limit && (eqb finalPosition (positionAfter rate squeezed) && eqb leafPosition 0)))
 
 -- what becomes of the two sponges, and the test of status 5
 unfoldable pub machine : ℕ → ℕ → Machine Nodes (List ℕ)
@@ -128,7 +128,7 @@ outputOf rate chaining r out =
 
 -- ---- in one go
 
--- the status of a message of m bytes, a customization string of c bytes, and n bytes asked
+-- the status of a message of m bytes, a customization string of c bytes, and n bytes asked: 2, 4, 7, 6 in this order
 unfoldable pub hashStatus : ℕ → ℕ → ℕ → ℕ
 hashStatus m c n =
     firstOf (cond (leb m limit) done inputTooLong)

@@ -9,7 +9,7 @@ use Rattle.turboshake.specs.Published.{turboshake}
 
 -- ---- 3.3: length_encode
 
--- the bytes of x, most significant first, with no leading zero; as many steps as the first argument are enough
+-- the bytes of x, most significant first, with no leading zero: none for 0. The first argument bounds the steps, and x itself is enough
 abbrev pub digits : ℕ → ℕ → List ℕ
 digits zero x = []
 digits (suc f) zero = []
@@ -36,37 +36,37 @@ marker = 0x03 ∷ replicate 7 0
 unfoldable pub trailer : List ℕ
 trailer = 0xFF ∷ 0xFF ∷ []
 
--- the domain separation bytes: SingleNode, IntermediateNode, FinalNode
-abbrev pub singleNode : ℕ
-singleNode = 0x07
+-- the domain separation bytes of a single node, an intermediate node and the final node
+abbrev pub singleDomain : ℕ
+singleDomain = 0x07
 
-abbrev pub intermediateNode : ℕ
-intermediateNode = 0x0B
+abbrev pub intermediateDomain : ℕ
+intermediateDomain = 0x0B
 
-abbrev pub finalNode : ℕ
-finalNode = 0x06
+abbrev pub finalDomain : ℕ
+finalDomain = 0x06
 
 module _ (rate chaining : ℕ) where
   -- CV_i = TurboSHAKE(S_i, 0B, chaining), joined in order
   abbrev pub chainingValues : List (List ℕ) → List ℕ
   chainingValues [] = []
-  chainingValues (s ∷ ss) = turboshake rate s intermediateNode chaining ++ chainingValues ss
+  chainingValues (s ∷ ss) = turboshake rate s intermediateDomain chaining ++ chainingValues ss
 
-  -- S_0, the marker, CV_1 .. CV_(n-1), length_encode(n - 1), FF FF; ss is S_1 .. S_(n-1)
+  -- of k chunks: S_0, the marker, CV_1 .. CV_(k-1), length_encode(k - 1), FF FF; ss is S_1 .. S_(k-1)
   abbrev pub finalNodeOf : List ℕ → List (List ℕ) → List ℕ
   finalNodeOf s ss = s ++ marker ++ chainingValues ss ++ lengthEncode (length ss) ++ trailer
 
   -- the output of n bytes for the chunks: one, or more
   abbrev pub tree : List (List ℕ) → ℕ → List ℕ
   tree [] n = []
-  tree (s ∷ []) n = turboshake rate s singleNode n
-  tree (s ∷ t ∷ ts) n = turboshake rate (finalNodeOf s (t ∷ ts)) finalNode n
+  tree (s ∷ []) n = turboshake rate s singleDomain n
+  tree (s ∷ t ∷ ts) n = turboshake rate (finalNodeOf s (t ∷ ts)) finalDomain n
 
   -- KT(M, C, L): S has at least one byte, so at least one chunk
   unfoldable pub kt : List ℕ → List ℕ → ℕ → List ℕ
   kt m c n = tree (cut chunk (merged m c)) n
 
--- 3.2 and 3.4: the two strengths differ in two numbers
+-- 3.2 and 3.4: the two strengths differ in two numbers, the rate and the chaining length; then M, C and the bytes of output
 abbrev pub kt128 : List ℕ → List ℕ → ℕ → List ℕ
 kt128 = kt 168 32
 
@@ -75,6 +75,7 @@ kt256 = kt 136 64
 
 -- ---- 4: HopMAC(Key, M, C, L) = KT(Key, KT(M, C, inner), L): the key stands as message, the inner digest as customization string
 
+-- the rate, the chaining length, the length of the inner digest; then Key, M, C and the bytes of output
 unfoldable pub hopmac : ℕ → ℕ → ℕ → List ℕ → List ℕ → List ℕ → ℕ → List ℕ
 hopmac rate chaining inner key m c n = kt rate chaining key (kt rate chaining m c inner) n
 

@@ -7,7 +7,7 @@ use lib.ListN.{length}
 use Rattle.keccak.specs.Permutation.{permuted}
 use Rattle.sponge.specs.Waiting.{At, steps}
 use Rattle.sponge.specs.Model.{Sponge, fresh, absorbBytes, pad, squeezeBytes}
-use Rattle.kangarootwelve.specs.Published.{lengthEncode, chunk, marker, trailer, singleNode, intermediateNode, finalNode}
+use Rattle.kangarootwelve.specs.Published.{lengthEncode, chunk, marker, trailer, singleDomain, intermediateDomain, finalDomain}
 
 -- the two sponges, and the number of the chunk in hand
 pub record Tree : Type 0 where
@@ -31,7 +31,7 @@ module _ (rate chaining : ℕ) where
   -- what the final node gets when the chunk in hand is full and another follows: the marker, or the leaf's chaining value
   abbrev pub ending : ℕ → Sponge → List ℕ
   ending zero leaf = marker
-  ending (suc k) leaf = squeezeBytes permuted rate chaining (pad permuted rate leaf intermediateNode)
+  ending (suc k) leaf = squeezeBytes permuted rate chaining (pad permuted rate leaf intermediateDomain)
 
   abbrev pub endChunk : Tree → Tree
   endChunk t = record { final = absorbBytes permuted rate (t .final) (ending (t .index) (t .leaf)); leaf = fresh; index = suc (t .index) }
@@ -41,8 +41,8 @@ module _ (rate chaining : ℕ) where
 
   -- all of S is in: the final node, ready to be squeezed
   abbrev pub closeTo : ℕ → Sponge → Sponge → Sponge
-  closeTo zero final leaf = pad permuted rate final singleNode
-  closeTo (suc k) final leaf = pad permuted rate (absorbBytes permuted rate final (ending (suc k) leaf ++ lengthEncode (suc k) ++ trailer)) finalNode
+  closeTo zero final leaf = pad permuted rate final singleDomain
+  closeTo (suc k) final leaf = pad permuted rate (absorbBytes permuted rate final (ending (suc k) leaf ++ lengthEncode (suc k) ++ trailer)) finalDomain
 
   abbrev pub closeTree : Tree → Sponge
   closeTree t = closeTo (t .index) (t .final) (t .leaf)

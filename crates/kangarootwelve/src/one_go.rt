@@ -6,7 +6,7 @@ ghost use lib.ListN.{length};
 ghost use Rattle.keccak.specs.Permutation.{permuted};
 ghost use Rattle.sponge.specs.Model.{fresh, absorbBytes};
 ghost use Rattle.turboshake.specs.Published.{turboshake};
-ghost use Rattle.kangarootwelve.specs.Published.{intermediateNode};
+ghost use Rattle.kangarootwelve.specs.Published.{intermediateDomain};
 ghost use Rattle.kangarootwelve.specs.Model.{hashStatus, hashOutput};
 ghost use Rattle.kangarootwelve.specs.Inside.{endedChunk, endedChunks};
 use crate::CUSTOMIZATION_LIMIT;
@@ -42,7 +42,7 @@ fn absorb_leaf(
     value: &mut [u8],
 ) -> usize
     requires { ⌜ (0 < rate) × (rate ≤ 200) × (position ≤ rate) × (length (now leaf) ≤ 8192) × (0 < length (now value)) × (length (now value) ≤ 64) ⌝ }
-    ensures { λ r. ⌜ record { value = now (node .exit); position = r } ≡ absorbBytes permuted rate (record { value = now (node .entry); position = position }) (turboshake rate (now (leaf .entry)) intermediateNode (length (now (value .entry)))) ⌝ }
+    ensures { λ r. ⌜ record { value = now (node .exit); position = r } ≡ absorbBytes permuted rate (record { value = now (node .entry); position = position }) (turboshake rate (now (leaf .entry)) intermediateDomain (length (now (value .entry)))) ⌝ }
 {
     let hashed = turboshake::hash_at_rate(rate, leaf, tree::INTERMEDIATE_NODE, value);
     let absorbed = sponge::absorb(node, position, rate, value);

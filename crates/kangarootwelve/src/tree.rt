@@ -6,7 +6,7 @@ ghost use lib.ListN.{length};
 ghost use Rattle.keccak.specs.Permutation.{permuted};
 ghost use Rattle.sponge.specs.Waiting.{ready};
 ghost use Rattle.sponge.specs.Model.{absorbBytes, pad, squeezeBytes};
-ghost use Rattle.kangarootwelve.specs.Published.{chunk, intermediateNode};
+ghost use Rattle.kangarootwelve.specs.Published.{chunk, intermediateDomain};
 ghost use Rattle.kangarootwelve.specs.Tree.{putTo, endChunk, absorbTree, closeTo, finalizeTree};
 ghost use Rattle.kangarootwelve.specs.Inside.{treeOf, Fits};
 use crate::Place;
@@ -42,7 +42,7 @@ fn absorb_value(
     value: &mut [u8],
 ) -> usize
     requires { ⌜ (0 < rate) × (rate ≤ 200) × (position ≤ rate) × (reached ≤ rate) ⌝ }
-    ensures { λ r. ⌜ record { value = now (node .exit); position = r } ≡ absorbBytes permuted rate (record { value = now (node .entry); position = position }) (squeezeBytes permuted rate (length (now (value .entry))) (pad permuted rate (record { value = now (leaf .entry); position = reached }) intermediateNode)) ⌝ }
+    ensures { λ r. ⌜ record { value = now (node .exit); position = r } ≡ absorbBytes permuted rate (record { value = now (node .entry); position = position }) (squeezeBytes permuted rate (length (now (value .entry))) (pad permuted rate (record { value = now (leaf .entry); position = reached }) intermediateDomain)) ⌝ }
 {
     let padded = sponge::pad(leaf, reached, rate, INTERMEDIATE_NODE);
     let squeezed = sponge::squeeze(leaf, padded.position, rate, value);

@@ -8,7 +8,7 @@ use Rattle.keccak.specs.State.{lane, grid}
 
 -- ---- words of 64 bits
 
--- x rotated left by n places: bit z moves to bit (z + n) mod 64
+-- x rotated left by n places: bit z moves to bit (z + n) mod 64; by none it is x, where the other line would shift by 64
 unfoldable pub rotl : ℕ → ℕ → ℕ
 rotl x zero = x
 rotl x (suc n) = bitOr ((x * 2 ^ suc n) % 2 ^ 64) (x / 2 ^ (64 - suc n))
@@ -23,7 +23,7 @@ complement x = (2 ^ 64 - 1) - x
 unfoldable pub parity : List ℕ → ℕ → ℕ
 parity a x = bitXor (bitXor (bitXor (bitXor (lane a x 0) (lane a x 1)) (lane a x 2)) (lane a x 3)) (lane a x 4)
 
--- D[x] is C[x - 1] XOR C[x + 1] rotated by one; x + 4 is x - 1 modulo 5
+-- D[x] is C[x - 1] XOR (C[x + 1] rotated by one); x + 4 is x - 1 modulo 5
 unfoldable pub theta : List ℕ → List ℕ
 theta a = grid (λ x y. bitXor (lane a x y) (bitXor (parity a (x + 4)) (rotl (parity a (x + 1)) 1)))
 

@@ -1,4 +1,5 @@
--- The rules of the two tables: FIPS 202, sections 3.2.2 (Algorithm 2) and 3.2.5 (Algorithms 5 and 6).
+-- The rules of the two tables: FIPS 202, sections 3.2.2 (Algorithm 2) and 3.2.5 (Algorithms 5 and 6). The table of offsets is `walked 24`,
+-- the twelve constants are `roundConstant 12` to `roundConstant 23`; nothing that is computed uses these rules.
 -- Assumes nothing.
 use mathlib.Core.List.{List}
 use Prim.Native.Nat.{ℕ, zero, suc, _+_, _-_, _*_, _/_, _%_, _^_}
@@ -26,9 +27,9 @@ walked (suc t) = set (walked t) (walk t .0 + 5 * walk t .1) (stepOffset t)
 -- The register R of Algorithm 5 is a number whose bit i is R[i]. Steps 3a to 3f: a zero comes in front, the bit that is
 -- pushed out, R[8], is XORed into R[0], R[4], R[5] and R[6], and eight bits are kept
 unfoldable pub shifted : ℕ → ℕ
-shifted r = bitXor ((2 * r) % 2 ^ 8) (2 * r / 2 ^ 8 * (2 ^ 0 + 2 ^ 4 + 2 ^ 5 + 2 ^ 6))
+shifted r = bitXor ((2 * r) % 2 ^ 8) (((2 * r) / 2 ^ 8) * (2 ^ 0 + 2 ^ 4 + 2 ^ 5 + 2 ^ 6))
 
--- R after i turns of step 3, from 10000000
+-- R after i turns of step 3; at first R[0] is 1 and the others are 0
 unfoldable pub register : ℕ → ℕ
 register zero = 1
 register (suc i) = shifted (register i)

@@ -25,7 +25,7 @@ grid f = from 0 25 (λ i. f (i % 5) (i / 5))
 
 -- byte i of the 200 bytes of a state: byte i % 8 of lane i / 8, the least significant first
 unfoldable pub byteAt : List ℕ → ℕ → ℕ
-byteAt a i = getD a (i / 8) 0 / 2 ^ (8 * (i % 8)) % 256
+byteAt a i = (getD a (i / 8) 0 / 2 ^ (8 * (i % 8))) % 256
 
 -- the 200 bytes of a state (sections 3.1.3 and B.1)
 unfoldable pub bytesOf : List ℕ → List ℕ

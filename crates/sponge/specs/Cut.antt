@@ -1,4 +1,5 @@
--- Cutting a byte string into pieces of one length: the blocks of a sponge, the chunks of a tree.
+-- Cutting a byte string into pieces of one length: the blocks of a sponge, the chunks of a tree. (The pieces of a message that a call
+-- absorbs have any length, and are cut nowhere here.)
 -- Assumes nothing.
 use mathlib.Core.List.{List, [], _∷_}
 use Prim.Native.Nat.{ℕ, zero, suc, _+_, _-_, _/_}
@@ -13,7 +14,7 @@ abbrev pub pieces : ℕ → ℕ → List ℕ → List (List ℕ)
 pieces zero r s = []
 pieces (suc n) r s = take r s ∷ pieces n r (drop r s)
 
--- s cut into pieces of r bytes; the last has 1 to r
+-- s cut into pieces of r bytes: none where it is empty, else the last has 1 to r
 abbrev pub cut : ℕ → List ℕ → List (List ℕ)
 cut r s = pieces (ceil r (length s)) r s
 

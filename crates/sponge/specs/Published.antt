@@ -1,5 +1,5 @@
 -- The sponge by blocks, as draft-irtf-cfrg-kangarootwelve-16 words it in section 2.2: over a permutation of 25 lanes, a rate in
--- bytes and the byte that follows the message.
+-- bytes and the byte that follows the message. A byte string is a list of numbers below 256.
 -- Assumes nothing.
 use mathlib.Core.List.{List, [], _∷_, _++_}
 use Prim.Native.Nat.{ℕ, zero, suc, _-_, _*_, _/_, _%_, _^_}
@@ -27,7 +27,7 @@ xorLast v (x ∷ y ∷ s) = x ∷ xorLast v (y ∷ s)
 unfoldable pub zeroLanes : List ℕ
 zeroLanes = replicate 25 0
 
--- zeros at the end to a multiple of the rate, none where it is one already, and 80 XORed to the last byte
+-- zeros at the end up to the next multiple of the rate, none where the length is one, and 0x80 XORed into the last byte
 unfoldable pub padded : ℕ → List ℕ → List ℕ
 padded rate s = xorLast 0x80 (s ++ replicate (ceil rate (length s) * rate - length s) 0)
 

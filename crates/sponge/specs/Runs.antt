@@ -14,8 +14,8 @@ pub record Run (S : Type 0) : Type 0 where
   pub absorbed : ℕ
   pub squeezed : ℕ
 
--- what becomes of a state (an absorb and a finalize know how many bytes were absorbed before), the bytes of a squeeze,
--- and the test of status 5
+-- what becomes of a state (an absorb and a finalize are given how many bytes were absorbed before), the bytes of a squeeze of n bytes and
+-- the state after it, and the test of status 5
 pub record Machine (S A : Type 0) : Type 0 where
   pub fresh : S
   pub absorb : ℕ → S → List ℕ → S

@@ -21,7 +21,8 @@ wrongPhase = 3
 abbrev pub customizationTooLong : ℕ
 customizationTooLong = 4
 
--- no run reached from a fresh one has this phase, these totals and these positions
+-- no run reached from a fresh one has this phase, these totals and these positions; of a call on a state alone: this is no rate, or no
+-- position in a block
 abbrev pub unreachable : ℕ
 unreachable = 5
 
@@ -29,7 +30,7 @@ unreachable = 5
 abbrev pub outputTooLong : ℕ
 outputTooLong = 6
 
--- a call in one go asks for 0 bytes, or a presented tag has a length that no tag has
+-- a call in one go asks for 0 bytes, or a presented tag is not 1 to 64 bytes long
 abbrev pub badLength : ℕ
 badLength = 7
 

@@ -1,5 +1,5 @@
 -- The transcript of a run, document 01's book, for any function that is absorbed into, finalized and squeezed. It sees the
--- calls' arguments alone, and of a lent output its length.
+-- calls' arguments alone, and of a lent output its length. `leb a b` tests a ≤ b, `eqb a b` tests a = b.
 -- Assumes nothing.
 use mathlib.Core.List.{List, [], _++_}
 use mathlib.Core.Bool.{cond}
@@ -24,7 +24,7 @@ abbrev pub phaseNumber : {A : Type 0} → Phase A → ℕ
 phaseNumber absorbing = 0
 phaseNumber (squeezing a) = 1
 
--- document 01's F, phase with the D or C, and R
+-- the bytes absorbed (document 01's F), the phase, with the finalize's argument once closed, and the number of bytes squeezed (R)
 pub record Transcript (A : Type 0) : Type 0 where
   pub absorbed : List ℕ
   pub phase : Phase A
@@ -63,7 +63,7 @@ lent zero bytes old = bytes
 lent (suc n) bytes old = old
 
 module _ {A : Type 0} (U : Rules A) where
-  -- the status, by the phase and the totals
+  -- the status, by the phase and the totals: 3, then that of the piece or the argument by itself, then 2 or 6
   abbrev pub statusOf : ℕ → ℕ → ℕ → Call A → ℕ
   statusOf phase absorbed squeezed (absorb p) = cond (eqb phase 0) (firstOf (U .piece (length p)) (cond (leb (absorbed + length p) (U .inputLimit)) done inputTooLong)) wrongPhase
   statusOf phase absorbed squeezed (finalize a) = cond (eqb phase 0) (U .argument a) wrongPhase
@@ -73,7 +73,7 @@ module _ {A : Type 0} (U : Rules A) where
   abbrev pub outputOf : Transcript A → ℕ → List ℕ
   outputOf t n = elim (t .phase) [ absorbing ↦ [] | squeezing a ↦ U .output (t .absorbed) a n ]
 
-  -- a call with status 0: what the transcript is then, and the bytes, those that follow the first R
+  -- a call with status 0: what the transcript is then, and the bytes, those that follow the ones squeezed before
   abbrev pub written : Transcript A → Call A → Transcript A
   written t (absorb p) = record { absorbed = t .absorbed ++ p; phase = t .phase; squeezed = t .squeezed }
   written t (finalize a) = record { absorbed = t .absorbed; phase = squeezing a; squeezed = t .squeezed }
