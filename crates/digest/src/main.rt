@@ -83,24 +83,14 @@ fn finish(hasher: Kt128, out: &mut [u8]) -> u8
     squeezed.status
 }
 
-fn write_byte(byte: u8) -> bool {
-    io::print_hex(STDOUT_FILENO, byte as u64, 2)
-}
-
-fn write_bytes(bytes: &[u8]) -> bool {
-    let mut i: usize = 0;
-    while i < bytes.len() {
-        if !write_byte(bytes[i]) {
-            return false;
-        }
-        i += 1;
-    }
-    true
-}
-
+// The line is one write, so that a disk which fills cannot cut it between two; its last byte stays the line end.
 fn write_digest(hasher: Kt128) -> bool {
     let mut out = [0u8; 32];
-    finish(hasher, &mut out) == DONE && write_bytes(&out) && io::write_all(STDOUT_FILENO, b"\n")
+    if finish(hasher, &mut out) != DONE {
+        return false;
+    }
+    let mut line = [b'\n'; 65];
+    hex::put(&mut line, 0, &out) && io::write_all(STDOUT_FILENO, &line)
 }
 
 // A digest is written only where the last read came to the input's end.
