@@ -107,30 +107,26 @@ fn write_number(n: usize) -> bool {
     io::write_all(STDOUT_FILENO, b" ") && io::print_decimal(STDOUT_FILENO, n as u64)
 }
 
-fn write_byte(byte: u8) -> bool {
-    io::print_hex(STDOUT_FILENO, byte as u64, 2)
-}
-
-fn write_bytes(bytes: &[u8]) -> bool {
-    let mut i: usize = 0;
-    while i < bytes.len() {
-        if !write_byte(bytes[i]) {
-            return false;
-        }
-        i += 1;
-    }
-    true
+// Writes the bytes' digits.
+fn write_bytes(bytes: &[u8]) -> bool
+    requires { ⌜ length (now bytes) ≤ 337 ⌝ }
+{
+    let mut text = [0u8; 674];
+    let end = 2 * bytes.len();
+    hex::put(&mut text, 0, bytes) && io::write_all(STDOUT_FILENO, &text[0..end])
 }
 
 // What was asked, after the function and the way.
 fn write_asked(length: usize, domain: u8, asked: usize) -> bool {
     write_number(length)
         && io::write_all(STDOUT_FILENO, b" ")
-        && write_byte(domain)
+        && io::print_hex(STDOUT_FILENO, domain as u64, 2)
         && write_number(asked)
 }
 
-fn write_answer(status: u8, out: &[u8]) -> bool {
+fn write_answer(status: u8, out: &[u8]) -> bool
+    requires { ⌜ length (now out) ≤ 337 ⌝ }
+{
     write_number(status as usize) && io::write_all(STDOUT_FILENO, b" ") && write_bytes(out)
 }
 

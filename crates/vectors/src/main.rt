@@ -127,19 +127,14 @@ fn write_asked(vector: Vector) -> bool {
         && io::write_all(STDOUT_FILENO, b" ")
 }
 
-fn write_byte(byte: u8) -> bool {
-    io::print_hex(STDOUT_FILENO, byte as u64, 2)
-}
-
+// Writes the digits of at most 128 bytes: the draft prints no more of an output.
 fn write_bytes(bytes: &[u8]) -> bool {
-    let mut i: usize = 0;
-    while i < bytes.len() {
-        if !write_byte(bytes[i]) {
-            return false;
-        }
-        i += 1;
+    let mut text = [0u8; 256];
+    if !hex::put(&mut text, 0, bytes) {
+        return false;
     }
-    true
+    let end = 2 * bytes.len();
+    io::write_all(STDOUT_FILENO, &text[0..end])
 }
 
 // The first byte that the draft prints: of a long output not the first 10,000.

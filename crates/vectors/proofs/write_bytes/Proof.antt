@@ -1,19 +1,23 @@
--- `vectors::write_bytes` is safe and ends. The measure is the number of bytes not yet written.
+-- `vectors::write_bytes` is safe: the digits that were put are a part of the text.
 -- Assumes nothing.
-use Prim.Native.Nat.{_-_}
+use mathlib.Core.Path.{sym, _∙_}
+use Prim.Native.Nat.{_+_, _*_, _≤_}
+use native.Mathlib.Omega.{arith}
 use lib.ListN.{length}
 use borrow.Author.Needs.{needs}
+use borrow.Author.Tests.{leb-true, not-false}
 use Rattle.vectors.proofs.write_bytes.Statement.{statement}
 use Rattle.vectors.proofs.write_bytes.Tie as tie
 
-abbrev Inv-loop : tie.InvT-loop
-Inv-loop bytes i₀ i = Unit
-
-abbrev μ-loop : tie.MeasureT-loop
-μ-loop bytes i₀ i = length bytes - i
+part-write-all-end : tie.Need-part-write-all-end
+part-write-all-end c =
+    let put = c .before .before .before .put in
+    let bytes = c .before .before .before .before .before .before .args .bytes .now in
+    let room : 0 + 2 * length bytes ≤ 256 = leb-true _ _ (sym (put .ensures .0) ∙ not-false (put .result) (c .before .if1 .left)) in
+    omega arith
 
 pub write-bytes-spec : {M : Type 1} → statement M
 write-bytes-spec =
     tie.close
-    (tie.spec Inv-loop μ-loop (λ c. search needs) (λ c. search needs) (λ c κs. search needs) (λ c. search needs) (λ c. search needs)
-    (λ c. search needs) (λ c. search needs) (λ c. search needs))
+    (tie.spec (λ c. search needs) (λ c κs. search needs) (λ c. search needs) (λ c. search needs) (λ c. search needs) (λ c. search needs)
+    part-write-all-end (λ c κs. search needs) (λ c. search needs))
