@@ -1,41 +1,16 @@
 // The lines that are written, each put together in a text as long as the longest.
 //
 // The line of a run is two digits, numbers of a space and 16 digits each, and a line end: 28 numbers and 479 bytes, or of KT 54
-// numbers and 921 bytes.
+// numbers and 921 bytes. What `hex::put` answers is not looked at: by the `requires` there is room.
 ghost use Prim.Native.Nat.{_+_, _*_, _<_, _≤_};
 ghost use lib.ListN.{length};
 use libc::STDOUT_FILENO;
-
-fn digit(d: u8) -> u8
-    requires { ⌜ d < 16 ⌝ }
-{
-    if d < 10 { b'0' + d } else { b'a' - 10 + d }
-}
 
 // A store of its own: what a call leaves of the text's length is known to the caller, who needs no proof file then.
 fn put(text: &mut [u8], at: usize, character: u8)
     requires { ⌜ at < length (now text) ⌝ }
 {
     text[at] = character;
-}
-
-// Puts a byte's two digits into the text.
-fn put_byte(text: &mut [u8], at: usize, byte: u8)
-    requires { ⌜ at + 1 < length (now text) ⌝ }
-{
-    put(text, at, digit(byte / 16));
-    put(text, at + 1, digit(byte % 16));
-}
-
-// Puts the bytes' digits into the text from `at` on.
-fn put_bytes(text: &mut [u8], at: usize, bytes: &[u8])
-    requires { ⌜ at + 2 * length (now bytes) ≤ length (now text) ⌝ }
-{
-    let mut i: usize = 0;
-    while i < bytes.len() {
-        put_byte(text, at + 2 * i, bytes[i]);
-        i += 1;
-    }
 }
 
 // Puts number k of a run's line.
@@ -54,7 +29,7 @@ fn put_number(text: &mut [u8], k: usize, v: u64)
         (v % 256) as u8,
     ];
     put(text, at, b' ');
-    put_bytes(text, at + 1, &bytes);
+    hex::put(text, at + 1, &bytes);
 }
 
 // Puts lanes as the numbers from k on.
@@ -72,7 +47,7 @@ fn put_lanes(text: &mut [u8], k: usize, lanes: [u64; 25])
 fn put_totals(text: &mut [u8], phase: u8, absorbed: u64, squeezed: u64)
     requires { ⌜ 479 ≤ length (now text) ⌝ }
 {
-    put_byte(text, 0, phase);
+    hex::put(text, 0, &[phase]);
     put_number(text, 0, absorbed);
     put_number(text, 1, squeezed);
 }
@@ -116,7 +91,7 @@ pub fn write_output(status: u8, out: &[u8], text: &mut [u8]) -> bool
 {
     let end = 2 * out.len() + 1;
     put(text, 0, b' ');
-    put_bytes(text, 1, out);
+    hex::put(text, 1, out);
     put(text, end, b'\n');
     io::print_decimal(STDOUT_FILENO, status as u64)
         && io::write_all(STDOUT_FILENO, &text[0..end + 1])
