@@ -101,20 +101,6 @@ fn clerk(
     Kt128::hash(&day[..end], name, out)
 }
 
-fn write_byte(byte: u8) -> bool {
-    io::print_hex(STDOUT_FILENO, byte as u64, 2)
-}
-
-fn write_hex(bytes: &[u8]) -> bool {
-    let mut is_written = true;
-    let mut i: usize = 0;
-    while i < bytes.len() && is_written {
-        is_written = write_byte(bytes[i]);
-        i += 1;
-    }
-    is_written
-}
-
 // Writes the digest after its heading, or the status where that is not 0.
 fn write_line(heading: &[u8], status: u8, digest: &[u8]) -> bool {
     if status != DONE {
@@ -122,9 +108,10 @@ fn write_line(heading: &[u8], status: u8, digest: &[u8]) -> bool {
             && io::print_decimal(STDOUT_FILENO, status as u64)
             && io::write_all(STDOUT_FILENO, b"\n");
     }
-    io::write_all(STDOUT_FILENO, heading)
-        && write_hex(digest)
-        && io::write_all(STDOUT_FILENO, b"\n")
+    let mut line = [b'\n'; 65];
+    hex::put(&mut line, 0, digest)
+        && io::write_all(STDOUT_FILENO, heading)
+        && io::write_all(STDOUT_FILENO, &line)
 }
 
 fn main() {
