@@ -1,7 +1,9 @@
 // The lines that are written, each put together in a text as long as the longest.
 //
 // The line of a run is two digits, numbers of a space and 16 digits each, and a line end: 28 numbers and 479 bytes, or of KT 54
-// numbers and 921 bytes. What `hex::put` answers is not looked at: by the `requires` there is room.
+// numbers and 921 bytes.
+ghost use mathlib.Core.Path.{_≡_};
+ghost use mathlib.Core.Bool.{true};
 ghost use Prim.Native.Nat.{_+_, _*_, _<_, _≤_};
 ghost use lib.ListN.{length};
 use libc::STDOUT_FILENO;
@@ -11,6 +13,14 @@ fn put(text: &mut [u8], at: usize, character: u8)
     requires { ⌜ at < length (now text) ⌝ }
 {
     text[at] = character;
+}
+
+// Puts the bytes' digits, for which there is room.
+fn put_digits(text: &mut [u8], at: usize, bytes: &[u8]) -> bool
+    requires { ⌜ at + 2 * length (now bytes) ≤ length (now text) ⌝ }
+    ensures { λ r. ⌜ r ≡ true ⌝ }
+{
+    hex::put(text, at, bytes)
 }
 
 // Puts number k of a run's line.
@@ -29,7 +39,7 @@ fn put_number(text: &mut [u8], k: usize, v: u64)
         (v % 256) as u8,
     ];
     put(text, at, b' ');
-    hex::put(text, at + 1, &bytes);
+    put_digits(text, at + 1, &bytes);
 }
 
 // Puts lanes as the numbers from k on.
@@ -47,7 +57,7 @@ fn put_lanes(text: &mut [u8], k: usize, lanes: [u64; 25])
 fn put_totals(text: &mut [u8], phase: u8, absorbed: u64, squeezed: u64)
     requires { ⌜ 479 ≤ length (now text) ⌝ }
 {
-    hex::put(text, 0, &[phase]);
+    put_digits(text, 0, &[phase]);
     put_number(text, 0, absorbed);
     put_number(text, 1, squeezed);
 }
@@ -91,7 +101,7 @@ pub fn write_output(status: u8, out: &[u8], text: &mut [u8]) -> bool
 {
     let end = 2 * out.len() + 1;
     put(text, 0, b' ');
-    hex::put(text, 1, out);
+    put_digits(text, 1, out);
     put(text, end, b'\n');
     io::print_decimal(STDOUT_FILENO, status as u64)
         && io::write_all(STDOUT_FILENO, &text[0..end + 1])
