@@ -1,10 +1,12 @@
 -- What the calls on a run of KT128 come to, whatever is read.
 -- Assumes nothing.
 use mathlib.Core.Path.{_≡_}
-use mathlib.Core.List.{List, []}
+use mathlib.Core.List.{List, [], _++_}
+use mathlib.Core.Bool.{Bool, true}
 use mathlib.Core.Logic.{_⊎_}
 use Prim.Native.Nat.{ℕ, _≤_}
-use lib.ListN.{length}
+use lib.ListN.{length, drop}
+use Rattle.hex.specs.Hex.{hexOf}
 use Rattle.sponge.specs.Status.{done, inputTooLong}
 use Rattle.sponge.specs.Transcript.{Call.absorb}
 use Rattle.turboshake.specs.Transcript.{limit}
@@ -28,3 +30,7 @@ pub record Absorbs (a : Answer128) : Type 0 where
 -- message that left it
 abbrev pub Digests : Run → ℕ → ℕ → List ℕ → Type 0
 Digests r n status out = (m : List ℕ) → Left r m → (status ≡ done) × (out ≡ kt128 m [] n)
+
+-- a text that held `old` has the digits of those 32 bytes at its beginning
+abbrev pub Written : Run → Bool → List ℕ → List ℕ → Type 0
+Written r answer old text = (m : List ℕ) → Left r m → (answer ≡ true) × (text ≡ hexOf (kt128 m [] 32) ++ drop 64 old)

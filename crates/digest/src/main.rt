@@ -7,7 +7,7 @@ ghost use Rattle.io.specs.Counts.{clamped};
 ghost use Rattle.sponge.specs.Transcript.{Call};
 ghost use Rattle.turboshake.specs.Transcript.{limit};
 ghost use Rattle.kangarootwelve.specs.Model.{answer128};
-ghost use Rattle.digest.specs.Digest.{Absorbs, Digests};
+ghost use Rattle.digest.specs.Digest.{Absorbs, Digests, Written};
 use kangarootwelve::Answer128;
 use kangarootwelve::Kt128;
 use libc::STDIN_FILENO;
@@ -83,14 +83,22 @@ fn finish(hasher: Kt128, out: &mut [u8]) -> u8
     squeezed.status
 }
 
-// The line is one write, so that a disk which fills cannot cut it between two; its last byte stays the line end.
-fn write_digest(hasher: Kt128) -> bool {
+// Puts the digest's digits at the line's beginning.
+fn put_digest(hasher: Kt128, line: &mut [u8]) -> bool
+    requires { ⌜ 64 ≤ length (now line) ⌝ }
+    ensures { λ r. ⌜ Written (hasher .run) r (now (line .entry)) (now (line .exit)) ⌝ }
+{
     let mut out = [0u8; 32];
     if finish(hasher, &mut out) != DONE {
         return false;
     }
+    hex::put(line, 0, &out)
+}
+
+// The line is one write, so that a disk which fills cannot cut it between two; its last byte stays the line end.
+fn write_digest(hasher: Kt128) -> bool {
     let mut line = [b'\n'; 65];
-    hex::put(&mut line, 0, &out) && io::write_all(STDOUT_FILENO, &line)
+    put_digest(hasher, &mut line) && io::write_all(STDOUT_FILENO, &line)
 }
 
 // A digest is written only where the last read came to the input's end.

@@ -1,1 +1,3 @@
+-- Crates above use `Digits`.
+pub mod Digits
 mod Stores
