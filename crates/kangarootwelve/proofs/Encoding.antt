@@ -1,13 +1,15 @@
 -- What the loop of length_encode asks: the bytes come off a number at its low end, and go into the array from its end.
 -- Assumes nothing.
-use mathlib.Core.Path.{_≡_, refl, sym, ap, _∙_, subst}
+use mathlib.Core.Path.{_≡_, refl, sym, ap, ap₂, _∙_, subst}
 use mathlib.Core.List.{List, [], _∷_, _++_, append-assoc}
-use Prim.Native.Nat.{ℕ, zero, suc, _+_, _-_, _/_, _%_, _^_, _≤_, _<_}
+use Prim.Native.Nat.{ℕ, zero, suc, _+_, _-_, _/_, _%_, _^_, _≤_, _<_, zero-le}
 use native.Mathlib.Nat.{div-lt-iff-lt-mul, zero-lt-suc, le-refl, pow-suc}
 use native.Mathlib.Omega.{arith}
-use lib.ListN.{length, take, drop, set, length-drop, drop-of-length-le}
-use lib.Seq.{set-split, drop-at, drop-set-add, length-take-le, take-all}
+use lib.ListN.{length, take, drop, set, replicate, length-append, length-replicate, length-drop, take-append-drop, drop-of-length-le}
+use lib.Seq.{set-split, drop-at, drop-set-add, length-take-le, take-all, take-take, take-set-le}
 use Rattle.kangarootwelve.specs.Published.{digits, lengthEncode}
+use Rattle.kangarootwelve.specs.Model.{encodingOf}
+use Rattle.kangarootwelve.specs.declared.LengthEncoding.{LengthEncoding}
 
 -- as many steps as the number are enough, and more change nothing
 digits-enough : (f g x : ℕ) → x ≤ f → x ≤ g → digits f x ≡ digits g x
@@ -35,6 +37,12 @@ digits-put x (suc j) s h p l e =
     let j′ : suc j - 1 ≡ j = omega arith in
     let k : 8 - j ≡ suc (8 - suc j) = omega arith in
     rw (j′, k, drop-set s j (x % 256) (omega arith), digits-last x h) (sym (append-assoc (digits (x / 256) (x / 256)) (x % 256 ∷ []) (take (8 - suc j) (drop (suc j) s))))
+
+-- the bytes before it stay
+pub before-put : (i : ℕ) (s s₀ : List ℕ) (b : ℕ) → take i s ≡ take i s₀ → take (i - 1) (set s (i - 1) b) ≡ take (i - 1) s₀
+before-put i s s₀ b e =
+    let less : i - 1 ≤ i = omega arith in
+    take-set-le (i - 1) s (i - 1) b (le-refl (i - 1)) ∙ sym (take-take (i - 1) i s less) ∙ ap (take (i - 1)) e ∙ take-take (i - 1) i s₀ less
 
 -- the array's room is enough
 pub room : (x i : ℕ) → 0 < i → x < 256 ^ i → x / 256 < 256 ^ (i - 1)
@@ -65,3 +73,68 @@ encoded x i s h l e =
 -- the part from there to the array's end
 pub encoded-part : (i x : ℕ) (s : List ℕ) → length s ≡ 9 → drop i s ≡ lengthEncode x → take (9 - i) (drop i s) ≡ lengthEncode x
 encoded-part i x s l e = take-all (9 - i) (drop i s) (rw (length-drop, l) (le-refl (9 - i))) ∙ e
+
+-- ---- the public call: the encoding at the end of nine bytes, after zeros
+
+-- a number below 256 ^ k has at most k bytes
+digits-short : (f x k : ℕ) → x < 256 ^ k → length (digits f x) ≤ k
+digits-short zero x k h = zero-le
+digits-short (suc f) zero k h = zero-le
+digits-short (suc f) (suc x) zero h = absurd (omega arith)
+digits-short (suc f) (suc x) (suc k) h =
+    let k′ : suc k - 1 ≡ k = omega arith in
+    let less : length (digits f (suc x / 256)) ≤ k = digits-short f (suc x / 256) k (rw k′ at (room (suc x) (suc k) (zero-lt-suc k) h)) in
+    rw (length-append (digits f (suc x / 256)) (suc x % 256 ∷ [])) (omega arith)
+
+pub encoding-short : (x k : ℕ) → x < 256 ^ k → length (lengthEncode x) ≤ suc k
+unfolding lengthEncode
+encoding-short x k h =
+    let less : length (digits x x) ≤ k = digits-short x x k h in
+    rw (length-append (digits x x) (length (digits x x) ∷ [])) (omega arith)
+
+take-zeros : (i n : ℕ) → i ≤ n → _≡_ {A = List ℕ} (take i (replicate n 0)) (replicate i 0)
+take-zeros zero n h = refl
+take-zeros (suc i) zero h = absurd (omega arith)
+take-zeros (suc i) (suc n) h = ap (λ (s : List ℕ). 0 ∷ s) (take-zeros i n (omega arith))
+
+pub encoding-is : (x i : ℕ) (s : List ℕ) → i ≤ 8 → length s ≡ 9 → drop i s ≡ lengthEncode x → take i s ≡ take i (replicate 9 0)
+    → _≡_ {A = LengthEncoding} (record { bytes = s; start = i }) (encodingOf x)
+unfolding encodingOf
+encoding-is x i s h l e z =
+    let n : length (lengthEncode x) ≡ 9 - i = ap length (sym e) ∙ length-drop i s ∙ ap (λ (k : ℕ). k - i) l in
+    let w : i ≡ 9 - length (lengthEncode x) = omega arith in
+    let b : s ≡ replicate i 0 ++ lengthEncode x = sym (take-append-drop i s) ∙ ap₂ (λ (p q : List ℕ). p ++ q) (z ∙ take-zeros i 9 (omega arith)) e in
+    ap (λ (t : List ℕ). record { bytes = t; start = i }) b ∙ ap (λ (k : ℕ). record { bytes = replicate k 0 ++ lengthEncode x; start = k }) w
+
+-- what a caller knows of the answer a
+module _ (x : ℕ) (a : LengthEncoding) (e : a ≡ encodingOf x) where
+  pub encoding-start : a .start ≤ 9
+  unfolding encodingOf
+  encoding-start = rw e (omega arith)
+
+  module _ (h : x < 256 ^ 8) where
+    pub encoding-length : length (a .bytes) ≡ 9
+    unfolding encodingOf
+    encoding-length =
+        let n : length (lengthEncode x) ≤ 9 = encoding-short x 8 h in
+        let k : ℕ = 9 - length (lengthEncode x) in
+        rw (e, length-append (replicate k 0) (lengthEncode x), length-replicate {A = ℕ} k 0) (omega arith)
+
+    pub encoding-part : take (9 - a .start) (drop (a .start) (a .bytes)) ≡ lengthEncode x
+    unfolding encodingOf
+    encoding-part =
+        let n : length (lengthEncode x) ≤ 9 = encoding-short x 8 h in
+        let k : ℕ = 9 - length (lengthEncode x) in
+        rw e (ap (take (9 - k)) (drop-at (replicate k 0) (lengthEncode x) k (length-replicate k 0)) ∙ take-all (9 - k) (lengthEncode x) (omega arith))
+
+-- the encodings of one byte at most
+pub encode-zero : lengthEncode 0 ≡ 0 ∷ []
+unfolding lengthEncode
+encode-zero = refl
+
+pub encode-byte : (x : ℕ) → 0 < x → x < 256 → lengthEncode x ≡ x ∷ 1 ∷ []
+unfolding lengthEncode
+encode-byte x h l =
+    let none : x / 256 ≡ 0 = omega arith in
+    let same : x % 256 ≡ x = omega arith in
+    rw (digits-last x h, none, same)

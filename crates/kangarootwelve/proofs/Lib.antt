@@ -1,14 +1,14 @@
 -- Laws of KT and HopMAC. Crates above use `Streaming` (the list theorem and what follows from it), `Answers` and `Pieces` (what a call
--- does, and calls in a row), `Merged` and `Tags` (what the tag check's answer says); the rest serves the functions' own proofs.
+-- does, and calls in a row), `Encoding`, `Merged` and `Tags` (what the tag check's answer says); the rest serves the functions' own proofs.
 pub mod Published
 pub mod Laws
 pub mod Streaming
 pub mod Answers
+pub mod Encoding
 pub mod Merged
 pub mod Pieces
 pub mod Tags
 mod Nodes
-mod Encoding
 mod Cases
 mod OneGo
 mod Mac

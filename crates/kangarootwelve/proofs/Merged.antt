@@ -32,6 +32,18 @@ head : List ℕ → ℕ
 head [] = 0
 head (x ∷ s) = x
 
+-- C with its length follows M, and is never nothing
+pub merged-is : (m c : List ℕ) → merged m c ≡ m ++ (c ++ lengthEncode (length c))
+unfolding merged
+merged-is m c = append-assoc m c (lengthEncode (length c))
+
+pub merged-some : (m c : List ℕ) → merged m c ≡ [] → ⊥
+unfolding merged lengthEncode
+merged-some m c e =
+    let a : List ℕ = digits (length c) (length c) in
+    let n : length (m ++ c ++ (a ++ length a ∷ [])) ≡ 0 = ap length e in
+    omega (arith, simp length-append at n)
+
 pub merged-injective : (m c m′ c′ : List ℕ) → merged m c ≡ merged m′ c′ → (m ≡ m′) × (c ≡ c′)
 unfolding merged lengthEncode head
 merged-injective m c m′ c′ e =

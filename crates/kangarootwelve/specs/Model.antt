@@ -1,9 +1,9 @@
 -- What each call on a run of KT, and each call in one go, does on every input, over the rate and the length of a chaining value.
 -- Assumes nothing.
-use mathlib.Core.List.{List}
+use mathlib.Core.List.{List, _++_}
 use mathlib.Core.Bool.{Bool, cond, _&&_}
-use Prim.Native.Nat.{ℕ, zero, suc, _+_, _*_}
-use lib.ListN.{length}
+use Prim.Native.Nat.{ℕ, zero, suc, _+_, _-_, _*_}
+use lib.ListN.{length, replicate}
 use lib.Dec.{eqb, leb}
 use Rattle.keccak.specs.Permutation.{permuted}
 use Rattle.sponge.specs.Waiting.{At, positionAfter, indexAfter}
@@ -13,7 +13,7 @@ use Rattle.sponge.specs.Transcript.{Call, Call.squeeze, Reply, lent}
 use Rattle.sponge.specs.Runs as runs
 use Rattle.sponge.specs.Runs.{Machine, freshRun, perform}
 use Rattle.turboshake.specs.Transcript.{limit}
-use Rattle.kangarootwelve.specs.Published.{chunk, kt}
+use Rattle.kangarootwelve.specs.Published.{lengthEncode, chunk, kt}
 use Rattle.kangarootwelve.specs.Transcript.{customizationStatus, rules}
 use Rattle.kangarootwelve.specs.Tree.{Tree, absorbTree, finalizeTree}
 use Rattle.kangarootwelve.specs.declared.Run.{Run}
@@ -21,6 +21,7 @@ use Rattle.kangarootwelve.specs.declared.Kt128.{Kt128}
 use Rattle.kangarootwelve.specs.declared.Answer128.{Answer128}
 use Rattle.kangarootwelve.specs.declared.Kt256.{Kt256}
 use Rattle.kangarootwelve.specs.declared.Answer256.{Answer256}
+use Rattle.kangarootwelve.specs.declared.LengthEncoding.{LengthEncoding}
 
 -- the two sponges of a run
 pub record Nodes : Type 0 where
@@ -138,3 +139,9 @@ hashStatus m c n =
 -- what the lent output holds after the call
 unfoldable pub hashOutput : ℕ → ℕ → List ℕ → List ℕ → List ℕ → List ℕ
 hashOutput rate chaining m c out = lent (hashStatus (length m) (length c) (length out)) (kt rate chaining m c (length out)) out
+
+-- ---- length_encode
+
+-- of a number of 64 bits: the encoding at the end of nine bytes, zeros before it, and where it starts
+unfoldable pub encodingOf : ℕ → LengthEncoding
+encodingOf x = record { bytes = replicate (9 - length (lengthEncode x)) 0 ++ lengthEncode x; start = 9 - length (lengthEncode x) }

@@ -12,7 +12,7 @@ mod tree;
 ghost use mathlib.Core.Path.{_≡_};
 ghost use lib.ListN.{length};
 ghost use Rattle.sponge.specs.Transcript.{Call};
-ghost use Rattle.kangarootwelve.specs.Model.{freshOf, answer128, answer256, outputOf, hashStatus, hashOutput};
+ghost use Rattle.kangarootwelve.specs.Model.{freshOf, answer128, answer256, outputOf, hashStatus, hashOutput, encodingOf};
 ghost use Rattle.kangarootwelve.specs.Mac.{macStatus, macOutput, verdictOf};
 use turboshake::TurboShake128;
 use turboshake::TurboShake256;
@@ -89,10 +89,25 @@ pub struct HopMac128 {}
 // HopMAC256.
 pub struct HopMac256 {}
 
+// The draft's length_encode of a number: the bytes from `start` on. Those before them are zeros.
+pub struct LengthEncoding {
+    pub bytes: [u8; 9],
+    pub start: usize,
+}
+
 // What the tag check answers: the status, and whether the presented tag is right, document 01's yes and no.
 pub struct Verdict {
     pub status: u8,
     pub valid: bool,
+}
+
+// The draft's length_encode, section 3.3.
+pub fn length_encode(x: u64) -> LengthEncoding
+    ensures { λ r. ⌜ r ≡ encodingOf x ⌝ }
+{
+    let mut bytes = [0u8; 9];
+    let start = encode::length_encode(x, &mut bytes);
+    LengthEncoding { bytes, start }
 }
 
 impl Kt128 {

@@ -1,24 +1,25 @@
-use mathlib.Core.Path.{_≡_, sym, _∙_}
+use mathlib.Core.Path.{_≡_, refl, sym, _∙_}
 use mathlib.Core.List.{_++_, append-nil}
 use Prim.Native.Nat.{_-_, _%_, _^_, _≤_, _<_}
 use native.Mathlib.Nat.{le-refl}
 use native.Mathlib.Omega.{arith}
 use lib.ListN.{length, take, drop, length-set}
+use lib.Seq.{take-set-le}
 use borrow.Author.Needs.{needs}
 use Rattle.kangarootwelve.specs.Published.{digits}
-use Rattle.kangarootwelve.proofs.Encoding.{digits-put, room, room-some, encoded}
+use Rattle.kangarootwelve.proofs.Encoding.{digits-put, before-put, room, room-some, encoded}
 use Rattle.kangarootwelve.proofs.encode.length_encode.Statement.{statement}
 use Rattle.kangarootwelve.proofs.encode.length_encode.Tie as tie
 
 abbrev Inv-loop : tie.InvT-loop
 Inv-loop x encoded₀ rest₀ i₀ encoded rest i =
-    (length encoded ≡ 9) × (i ≤ 8) × (rest < 256 ^ i) × (digits rest rest ++ take (8 - i) (drop i encoded) ≡ digits x x)
+    (length encoded ≡ 9) × (i ≤ 8) × (rest < 256 ^ i) × (digits rest rest ++ take (8 - i) (drop i encoded) ≡ digits x x) × (take i encoded ≡ take i encoded₀)
 
 abbrev μ-loop : tie.MeasureT-loop
 μ-loop x encoded₀ rest₀ i₀ encoded rest i = rest
 
 loop-holds : tie.Need-loop-holds Inv-loop μ-loop
-loop-holds c = (c .pre, le-refl 8, omega arith, append-nil (digits (c .args .x) (c .args .x)))
+loop-holds c = (c .pre, le-refl 8, omega arith, append-nil (digits (c .args .x) (c .args .x)), refl)
 
 sub-i : tie.Need-sub-i Inv-loop μ-loop
 sub-i c = let l = c .before .loop in room-some (l .rest) (l .i) (c .loop-test .taken) (l .inv .2)
@@ -40,6 +41,7 @@ loop-again c =
       omega arith,
       room (l .rest) (l .i) some (l .inv .2),
       digits-put (l .rest) (l .i) (l .encoded) (c .loop-test .taken) some (l .inv .1) (l .inv .0) ∙ l .inv .3,
+      before-put (l .i) (l .encoded) _ (l .rest % 256) (l .inv .4),
     )
 
 sub-encoded : tie.Need-sub-encoded Inv-loop μ-loop
@@ -58,7 +60,8 @@ returns : tie.Need-returns Inv-loop μ-loop
 returns c =
     let l = c .before .loop in
     let none : l .rest ≡ 0 = omega (arith, c .loop-test .left) in
-    (l .inv .1, encoded (c .before .before .args .x) (l .i) (l .encoded) (l .inv .1) (l .inv .0) (rw none at (l .inv .3)))
+    let put = encoded (c .before .before .args .x) (l .i) (l .encoded) (l .inv .1) (l .inv .0) (rw none at (l .inv .3)) in
+    (l .inv .1, (put, take-set-le (l .i) (l .encoded) 8 (8 - l .i) (l .inv .1) ∙ l .inv .4))
 
 pub length-encode-spec : {M : Type 1} → statement M
 length-encode-spec =

@@ -71,7 +71,7 @@ returns-2 c =
     let row = final-row (a .args .rate) (a .pre .0) (a .pre .1) (a .args .chaining) (record { value = a .args .node .now; position = a .args .at .node }) (record { value = a .args .leaf .now; position = a .args .at .leaf }) (record { value = v .last .1 .0; position = v .result })
     (a .args .at .index) (take (a .args .chaining - 0) (replicate 64 0)) (take (9 - n .result) (drop (n .result) (n .last .1 .0)))
     (record { status = o .result .status; state = record { value = o .last .0; position = o .result .position } }) (record { status = p .result .status; state = record { value = p .last .0; position = p .result .position } }) (record { status = q .result .status; state = record { value = q .last .0; position = q .result .position } })
-    (c .before .before .before .before .before .before .before .before .before .before .before .before .before .before .before .before .before .if1 .left) (h .final-fits) (value-length (a .args .chaining) (a .pre .2)) (v .ensures) (encoded-part (n .result) (a .args .at .index) (n .last .1 .0) (n .kept .1 .0) (n .ensures .1)) (o .ensures) (p .ensures) (q .ensures) in
+    (c .before .before .before .before .before .before .before .before .before .before .before .before .before .before .before .before .before .if1 .left) (h .final-fits) (value-length (a .args .chaining) (a .pre .2)) (v .ensures) (encoded-part (n .result) (a .args .at .index) (n .last .1 .0) (n .kept .1 .0) (n .ensures .1 .0)) (o .ensures) (p .ensures) (q .ensures) in
     closed (a .args .rate) (a .pre .0) (a .pre .1) (a .args .chaining) (record { value = q .last .0; position = q .result .position }) (record { value = a .args .node .now; position = a .args .at .node }) (record { value = a .args .leaf .now; position = a .args .at .leaf }) (a .args .at .index) row
 
 pub close-spec : {M : Type 1} → statement M

@@ -47,7 +47,7 @@ returns c =
     (second .ensures .1 .1
     ∙ ap (λ (u : At Tree). absorbTree (a .rate) (a .chaining) u (take (9 - n .result) (drop (n .result) (n .last .1 .0)))) (first .ensures .1 .1)
     ∙ ap (absorbTree (a .rate) (a .chaining) (absorbTree (a .rate) (a .chaining) t (a .customization .now)))
-    (encoded-part (n .result) (length (a .customization .now)) (n .last .1 .0) (n .kept .1 .0) (n .ensures .1))
+    (encoded-part (n .result) (length (a .customization .now)) (n .last .1 .0) (n .kept .1 .0) (n .ensures .1 .0))
     ∙ sym (steps-append (endChunk (a .rate) (a .chaining)) (putByte (a .rate)) chunk t (a .customization .now) (lengthEncode (length (a .customization .now)))))
 
 pub finalize-spec : {M : Type 1} → statement M
