@@ -68,14 +68,14 @@ module _ {S A : Type 0} (U : Rules A) (M : Machine S A) (L : generic.Laws U M) (
   }
 
   five-unreached : (r : Run S) (c : Call A) → perform U M r c .status ≡ unreachable → Reached U M positions r → ⊥
-  five-unreached r c e g = subst T (sym (reached-reachable U M L positions due shape shaped r g) ∙ status-five U M O r c e) tt
+  five-unreached r c e g = subst T (sym (reached-reachable U M L positions due shape shaped r g) ∙ status-five U M (O .piece-other) (O .argument-other) r c e) tt
 
   unreached-five : (r : Run S) (c : Call A) → (Reached U M positions r → ⊥) → perform U M r c .status ≡ unreachable
   unreached-five r c g = by (M .reachable r) refl
     where
       by : (t : Bool) → M .reachable r ≡ t → perform U M r c .status ≡ unreachable
       by true e = absurd (g (reachable-reached U M L positions due shape shaped O r e))
-      by false e = five-status U M O r c e
+      by false e = five-status U M (O .piece-other) (O .argument-other) r c e
 
   pub corollaries : Corollaries U M positions
   corollaries = record {

@@ -56,6 +56,13 @@ module _ {A : Type 0} (U : Rules A) where
   unfolding transcribe
   transcribe-refused t c n e = rw e
 
+  pub transcribe-status : (t : Transcript A) (c : Call A) → transcribe U t c .status ≡ statusOf U (phaseNumber (t .phase)) (length (t .absorbed)) (t .squeezed) c
+  transcribe-status t c = by (statusOf U (phaseNumber (t .phase)) (length (t .absorbed)) (t .squeezed) c) refl
+    where
+      by : (v : ℕ) → statusOf U (phaseNumber (t .phase)) (length (t .absorbed)) (t .squeezed) c ≡ v → transcribe U t c .status ≡ v
+      by zero e = ap (λ (y : Reply (Transcript A)). y .status) (transcribe-done t c e)
+      by (suc v) e = ap (λ (y : Reply (Transcript A)). y .status) (transcribe-refused t c v e)
+
 -- what a machine owes beside `Laws`: a run that 5 does not refuse is one after each call with status 0
 abbrev pub Stays : {S A : Type 0} → Rules A → Machine S A → Type 0
 Stays {S} {A} U M = (r : Run S) (c : Call A) → M .reachable r ≡ true → statusOf U (r .phase) (r .absorbed) (r .squeezed) c ≡ 0 → M .reachable (worked U M r c) ≡ true

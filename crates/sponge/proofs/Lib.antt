@@ -7,8 +7,10 @@ pub mod Published
 pub mod Position
 pub mod FirstStatus
 pub mod Valid
+pub mod Following
 pub mod Streaming
 pub mod Joining
+pub mod Both
 pub mod Reachable
 pub mod Corollaries
 pub mod Answers

@@ -11,20 +11,27 @@ use lib.ListN.{length}
 use lib.Dec.{eqb}
 use borrow.Author.Tests.{le-leb}
 use Rattle.sponge.specs.Status.{firstOf}
-use Rattle.sponge.specs.Transcript.{Call.absorb, Call.finalize, Call.squeeze, Phase, Phase.absorbing, Phase.squeezing, Rules, withPieces}
+use Rattle.sponge.specs.Transcript.{Call.absorb, Call.finalize, Call.squeeze, Phase, Phase.absorbing, Phase.squeezing, Transcript, Rules, withPieces, transcribe}
 use Rattle.sponge.specs.Runs.{Run, Machine, perform}
 use Rattle.sponge.proofs.FirstStatus.{first-zero}
 use Rattle.sponge.proofs.Streaming.{Fits, Laws}
 use Rattle.sponge.proofs.Joining.{Stays}
 use Rattle.sponge.proofs.Reachable.{Shape}
 
+-- ---- what is owed
+
+-- the totals fit whatever the status of pieces is
+pub fits-with : {A : Type 0} (U : Rules A) (piece : ℕ → ℕ) (t : Transcript A) → Fits U t → Fits (withPieces U piece) t
+fits-with {A} U piece t h = by (t .absorbed) (t .phase) (t .squeezed) h
+  where
+    by : (f : List ℕ) (h : Phase A) (n : ℕ) → Fits U (record { absorbed = f; phase = h; squeezed = n }) → Fits (withPieces U piece) (record { absorbed = f; phase = h; squeezed = n })
+    by f absorbing n t = record { input-fits = t .input-fits; output-fits = t .output-fits }
+    by f (squeezing a) n t = record { input-fits = t .input-fits; output-fits = t .output-fits }
+
+pub fits-without : {A : Type 0} (U : Rules A) (piece : ℕ → ℕ) (t : Transcript A) → Fits (withPieces U piece) t → Fits U t
+fits-without U piece t h = fits-with (withPieces U piece) (U .piece) t h
+
 module _ {S A : Type 0} (U : Rules A) (M : Machine S A) (piece : ℕ → ℕ) where
-  -- ---- what is owed
-
-  fits : (f : List ℕ) (h : Phase A) (n : ℕ) → Fits (withPieces U piece) (record { absorbed = f; phase = h; squeezed = n }) → Fits U (record { absorbed = f; phase = h; squeezed = n })
-  fits f absorbing n t = record { input-fits = t .input-fits; output-fits = t .output-fits }
-  fits f (squeezing a) n t = record { input-fits = t .input-fits; output-fits = t .output-fits }
-
   pub laws : Laws U M → Laws (withPieces U piece) M
   laws L = record {
     absorb-nothing = L .absorb-nothing;
@@ -34,7 +41,7 @@ module _ {S A : Type 0} (U : Rules A) (M : Machine S A) (piece : ℕ → ℕ) wh
     squeeze-add = L .squeeze-add;
     squeeze-length = L .squeeze-length;
     squeeze-output = L .squeeze-output;
-    run-reachable = λ t h. L .run-reachable t (fits (t .absorbed) (t .phase) (t .squeezed) h);
+    run-reachable = λ t h. L .run-reachable t (fits-without U piece t h);
   }
 
   module _ (all-taken : (n : ℕ) → U .piece n ≡ 0) where
@@ -54,7 +61,7 @@ module _ {S A : Type 0} (U : Rules A) (M : Machine S A) (piece : ℕ → ℕ) wh
     pub shaped : Shape (withPieces U piece) positions due r → Shape U positions due r
     shaped t = record { phase-fits = t .phase-fits; absorbed-fits = t .absorbed-fits; squeezed-fits = t .squeezed-fits; positions-due = t .positions-due }
 
-  -- ---- what a call does
+  -- ---- what a call does, to a run and to a transcript
 
   pub finalize-same : (r : Run S) (a : A) → perform U M r (finalize a) ≡ perform (withPieces U piece) M r (finalize a)
   unfolding perform
@@ -67,6 +74,18 @@ module _ {S A : Type 0} (U : Rules A) (M : Machine S A) (piece : ℕ → ℕ) wh
   pub absorb-same : (r : Run S) (p : List ℕ) → U .piece (length p) ≡ 0 → piece (length p) ≡ 0 → perform U M r (absorb p) ≡ perform (withPieces U piece) M r (absorb p)
   unfolding perform
   absorb-same r p e f = rw (e, f)
+
+  pub finalize-told : (t : Transcript A) (a : A) → transcribe U t (finalize a) ≡ transcribe (withPieces U piece) t (finalize a)
+  unfolding transcribe
+  finalize-told t a = refl
+
+  pub squeeze-told : (t : Transcript A) (k : ℕ) → transcribe U t (squeeze k) ≡ transcribe (withPieces U piece) t (squeeze k)
+  unfolding transcribe
+  squeeze-told t k = refl
+
+  pub absorb-told : (t : Transcript A) (p : List ℕ) → U .piece (length p) ≡ 0 → piece (length p) ≡ 0 → transcribe U t (absorb p) ≡ transcribe (withPieces U piece) t (absorb p)
+  unfolding transcribe
+  absorb-told t p e f = rw (e, f)
 
   -- a piece that is refused by itself gets what nothing would get, and its own status where that is done; a run that 5 does not refuse
   -- has absorbed no more than the limit

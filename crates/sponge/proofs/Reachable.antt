@@ -101,6 +101,24 @@ pub record Shape {S A : Type 0} (U : Rules A) (positions : S → List ℕ) (due 
 
 module _ {S A : Type 0} (U : Rules A) (M : Machine S A) (L : Laws U M) (positions : S → List ℕ) (due : ℕ → ℕ → ℕ → List ℕ)
     (shape : (r : Run S) → M .reachable r ≡ true → Shape U positions due r) (shaped : (r : Run S) → Shape U positions due r → M .reachable r ≡ true) where
+  -- ---- two runs with one phase and one pair of totals: where both pass the test, their positions are the same; and where the one passes and
+  -- their positions are the same, so does the other
+
+  pub same-positions : (q r : Run S) → M .reachable q ≡ true → M .reachable r ≡ true → q .phase ≡ r .phase → q .absorbed ≡ r .absorbed → q .squeezed ≡ r .squeezed
+      → positions (q .state) ≡ positions (r .state)
+  same-positions q r f g h n k = shape q f .positions-due ∙ rw (h, n, k) (sym (shape r g .positions-due))
+
+  pub alike-reachable : (q r : Run S) → M .reachable q ≡ true → q .phase ≡ r .phase → q .absorbed ≡ r .absorbed → q .squeezed ≡ r .squeezed
+      → positions (q .state) ≡ positions (r .state) → M .reachable r ≡ true
+  alike-reachable q r f h n k p =
+      let t : Shape U positions due q = shape q f in
+      shaped r record {
+        phase-fits = subst (λ (m : ℕ). m ≤ 1) h (t .phase-fits);
+        absorbed-fits = subst (λ (m : ℕ). m ≤ U .inputLimit) n (t .absorbed-fits);
+        squeezed-fits = rw (h, k) at (t .squeezed-fits);
+        positions-due = sym p ∙ t .positions-due ∙ rw (h, n, k);
+      }
+
   -- ---- a run that the test passes is reached by a list of calls
 
   module _ (O : Statuses U) where
@@ -114,14 +132,13 @@ module _ {S A : Type 0} (U : Rules A) (M : Machine S A) (L : Laws U M) (position
         streaming U M L (callsTo U M (singles f) h k) .run
         ∙ ap (runOf U M) (reach U M (singles f) h k (subst (Fits U) (sym w) fits) (all-singles U M (O .byte-taken) f) t ∙ w) in
         let l : length f ≡ n = length-replicate n 0 in
+        let passes : M .reachable (ran U M (callsTo U M (singles f) h k) .left) ≡ true = rw is (L .run-reachable b fits) in
         record {
           calls = callsTo U M (singles f) h k;
           phase-is = ap (λ (r : Run S). r .phase) is;
           absorbed-is = ap (λ (r : Run S). r .absorbed) is ∙ l;
           squeezed-is = ap (λ (r : Run S). r .squeezed) is;
-          positions-are =
-              ap (λ (r : Run S). positions (r .state)) is ∙ shape (runOf U M b) (L .run-reachable b fits) .positions-due
-              ∙ ap (λ (m : ℕ). due (phaseNumber h) m k) l ∙ sym (shape (record { state = s; phase = phaseNumber h; absorbed = n; squeezed = k }) e .positions-due);
+          positions-are = same-positions _ (record { state = s; phase = phaseNumber h; absorbed = n; squeezed = k }) passes e (ap (λ (r : Run S). r .phase) is) (ap (λ (r : Run S). r .absorbed) is ∙ l) (ap (λ (r : Run S). r .squeezed) is);
         }
 
     reached-at : (s : S) (h n k : ℕ) → M .reachable (record { state = s; phase = h; absorbed = n; squeezed = k }) ≡ true
@@ -143,17 +160,11 @@ module _ {S A : Type 0} (U : Rules A) (M : Machine S A) (L : Laws U M) (position
   reached-reachable r g =
       let q : Run S = ran U M (g .calls) .left in
       let passes : M .reachable q ≡ true = rw (streaming U M L (g .calls) .run) (L .run-reachable _ (told-fits U M L (g .calls))) in
-      let t : Shape U positions due q = shape q passes in
-      shaped r record {
-        phase-fits = subst (λ (n : ℕ). n ≤ 1) (g .phase-is) (t .phase-fits);
-        absorbed-fits = subst (λ (n : ℕ). n ≤ U .inputLimit) (g .absorbed-is) (t .absorbed-fits);
-        squeezed-fits = rw (g .phase-is, g .squeezed-is) at (t .squeezed-fits);
-        positions-due = sym (g .positions-are) ∙ t .positions-due ∙ rw (g .phase-is, g .absorbed-is, g .squeezed-is);
-      }
+      alike-reachable q r passes (g .phase-is) (g .absorbed-is) (g .squeezed-is) (g .positions-are)
 
 -- ---- 5 is the status of that test and of no other
 
-module _ {S A : Type 0} (U : Rules A) (M : Machine S A) (O : Statuses U) where
+module _ {S A : Type 0} (U : Rules A) (M : Machine S A) (no-piece : (n : ℕ) → U .piece n ≡ unreachable → ⊥) (no-argument : (a : A) → U .argument a ≡ unreachable → ⊥) where
   limit-other : (t o : Bool) (n m : ℕ) → (n ≡ unreachable → ⊥) → (m ≡ unreachable → ⊥) → cond o (cond t 0 n) m ≡ unreachable → ⊥
   limit-other true true n m f g e = omega arith
   limit-other false true n m f g e = f e
@@ -165,12 +176,12 @@ module _ {S A : Type 0} (U : Rules A) (M : Machine S A) (O : Statuses U) where
   piece-other false s n f g e = omega arith
 
   argument-other : (o : Bool) (a : A) → cond o (U .argument a) 3 ≡ unreachable → ⊥
-  argument-other true a e = O .argument-other a e
+  argument-other true a e = no-argument a e
   argument-other false a e = omega arith
 
   status-other : (h n k : ℕ) (c : Call A) → statusOf U h n k c ≡ unreachable → ⊥
   status-other h n k (absorb p) e =
-      piece-other (eqb h 0) (U .piece (length p)) (cond (leb (n + length p) (U .inputLimit)) 0 2) (O .piece-other (length p))
+      piece-other (eqb h 0) (U .piece (length p)) (cond (leb (n + length p) (U .inputLimit)) 0 2) (no-piece (length p))
       (limit-other (leb (n + length p) (U .inputLimit)) (eqb h 0) 2 3 (λ e. omega arith) (λ e. omega arith)) e
   status-other h n k (finalize a) e = argument-other (eqb h 0) a e
   status-other h n k (squeeze j) e = limit-other (leb (k + j) (U .outputLimit)) (eqb h 1) 6 3 (λ e. omega arith) (λ e. omega arith) e

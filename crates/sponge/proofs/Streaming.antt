@@ -1,7 +1,7 @@
 -- Demand 3 once for every function: over every list of calls from a fresh run, a machine that meets `Laws` does what the transcript tells.
 -- Assumes nothing.
-use mathlib.Core.Path.{_≡_, refl, sym, ap, _∙_}
-use mathlib.Core.List.{List, [], _∷_, _++_, append-nil, append-assoc}
+use mathlib.Core.Path.{_≡_, refl, sym}
+use mathlib.Core.List.{List, [], _∷_, _++_, append-nil}
 use mathlib.Core.Bool.{Bool, true, false, cond}
 use Prim.Native.Nat.{ℕ, zero, suc, _+_, _≤_, zero-le}
 use native.Mathlib.Nat.{zero-add}
@@ -9,10 +9,11 @@ use native.Mathlib.Omega.{arith}
 use lib.ListN.{length, drop, length-append}
 use lib.Seq.{drop-at}
 use borrow.Author.Tests.{leb-true}
-use Rattle.sponge.specs.Transcript.{Call, Call.absorb, Call.finalize, Call.squeeze, Phase, Phase.absorbing, Phase.squeezing, phaseNumber, Transcript, freshTranscript, Rules, Reply, statusOf, outputOf, written, given, transcribe}
+use Rattle.sponge.specs.Transcript.{Call, Call.absorb, Call.finalize, Call.squeeze, Phase, Phase.absorbing, Phase.squeezing, phaseNumber, Transcript, freshTranscript, Rules, statusOf, outputOf, written, given, transcribe}
 use Rattle.sponge.specs.Runs.{Run, Machine, worked, bytesOut, perform, stateOf, runOf}
-use Rattle.sponge.specs.Streaming.{history, joined, Streaming}
+use Rattle.sponge.specs.Streaming.{history, Streaming}
 use Rattle.sponge.proofs.FirstStatus.{first-zero}
+use Rattle.sponge.proofs.Following.{One, Same, follows}
 
 pub cond-zero : (t : Bool) (n : ℕ) → cond t 0 (suc n) ≡ 0 → t ≡ true
 cond-zero true n e = refl
@@ -35,6 +36,10 @@ module _ {A : Type 0} (U : Rules A) where
   pub fits-fresh : Fits freshTranscript
   fits-fresh = record { input-fits = zero-le; output-fits = zero-le }
 
+  -- all bytes that were given so far
+  abbrev pub outputSo : Transcript A → List ℕ
+  outputSo t = outputOf U t (t .squeezed)
+
 module _ {S A : Type 0} (U : Rules A) (M : Machine S A) where
   -- what a machine owes
   pub record Laws : Type 0 where
@@ -54,10 +59,6 @@ module _ {S A : Type 0} (U : Rules A) (M : Machine S A) (L : Laws U M) where
   output-next : (f : List ℕ) (a : A) (n k : ℕ) → drop n (U .output f a (n + k)) ≡ M .squeeze k (stateOf U M f (squeezing a) n)
   output-next f a n k = rw (output-add f a n k) (drop-at (U .output f a n) _ n (rw (← L .squeeze-output f a n) (L .squeeze-length n _)))
 
-  -- all bytes that were given so far
-  outputSo : Transcript A → List ℕ
-  outputSo t = outputOf U t (t .squeezed)
-
   -- ---- one call
 
   -- a call with status 0: the run does what the transcript writes
@@ -65,11 +66,10 @@ module _ {S A : Type 0} (U : Rules A) (M : Machine S A) (L : Laws U M) where
     bytes : bytesOut U M (runOf U M t) c ≡ given U t c
     run : worked U M (runOf U M t) c ≡ runOf U M (written U t c)
     fits : Fits U (written U t c)
-    extends : outputSo t ++ given U t c ≡ outputSo (written U t c)
+    extends : outputSo U t ++ given U t c ≡ outputSo U (written U t c)
 
   done : (f : List ℕ) (h : Phase A) (n : ℕ) (c : Call A) → Fits U (record { absorbed = f; phase = h; squeezed = n })
       → statusOf U (phaseNumber h) (length f) n c ≡ 0 → Done (record { absorbed = f; phase = h; squeezed = n }) c
-  unfolding outputSo
   done f (squeezing a) n (absorb p) h e = absurd (omega arith)
   done f absorbing n (absorb p) h e = record {
     bytes = refl;
@@ -93,19 +93,12 @@ module _ {S A : Type 0} (U : Rules A) (M : Machine S A) (L : Laws U M) where
   }
   done f absorbing n (squeeze k) h e = absurd (omega arith)
 
-  runReply : Reply (Transcript A) → Reply (Run S)
-  runReply r = record { status = r .status; bytes = r .bytes; left = runOf U M (r .left) }
-
-  record One (t : Transcript A) (c : Call A) : Type 0 where
-    reply-is : perform U M (runOf U M t) c ≡ runReply (transcribe U t c)
-    fits : Fits U (transcribe U t c .left)
-    extends : outputSo t ++ transcribe U t c .bytes ≡ outputSo (transcribe U t c .left)
-
-  one : (t : Transcript A) (c : Call A) → Fits U t → One t c
-  unfolding perform transcribe runReply
+  -- a call on the run that a transcript within the limits tells of: what the transcript says
+  pub one : (t : Transcript A) (c : Call A) → Fits U t → One (perform U M) (transcribe U) (runOf U M) (Fits U) (outputSo U) t c
+  unfolding perform transcribe
   one t c h = by (statusOf U (phaseNumber (t .phase)) (length (t .absorbed)) (t .squeezed) c) refl
     where
-      by : (v : ℕ) → statusOf U (phaseNumber (t .phase)) (length (t .absorbed)) (t .squeezed) c ≡ v → One t c
+      by : (v : ℕ) → statusOf U (phaseNumber (t .phase)) (length (t .absorbed)) (t .squeezed) c ≡ v → One (perform U M) (transcribe U) (runOf U M) (Fits U) (outputSo U) t c
       by zero e =
           let g : Done t c = done (t .absorbed) (t .phase) (t .squeezed) c h e in
           record {
@@ -116,43 +109,21 @@ module _ {S A : Type 0} (U : Rules A) (M : Machine S A) (L : Laws U M) where
       by (suc v) e = record {
         reply-is = rw (L .run-reachable t h, e);
         fits = rw e h;
-        extends = rw e (append-nil (outputSo t));
+        extends = rw e (append-nil (outputSo U t));
       }
 
-  -- a call on the run that a transcript within the limits tells of
   pub performs : (t : Transcript A) (c : Call A) → Fits U t
       → perform U M (runOf U M t) c ≡ record { status = transcribe U t c .status; bytes = transcribe U t c .bytes; left = runOf U M (transcribe U t c .left) }
-  unfolding runReply
   performs t c h = one t c h .reply-is
 
   -- ---- every list of calls
 
-  record Same (t : Transcript A) (cs : List (Call A)) : Type 0 where
-    statuses : history (perform U M) (runOf U M t) cs .statuses ≡ history (transcribe U) t cs .statuses
-    run : history (perform U M) (runOf U M t) cs .left ≡ runOf U M (history (transcribe U) t cs .left)
-    bytes : history (perform U M) (runOf U M t) cs .bytes ≡ history (transcribe U) t cs .bytes
-    output : outputSo t ++ joined (history (perform U M) (runOf U M t) cs .bytes) ≡ outputSo (history (transcribe U) t cs .left)
-    fits : Fits U (history (transcribe U) t cs .left)
-
-  same : (cs : List (Call A)) (t : Transcript A) → Fits U t → Same t cs
-  unfolding runReply
-  same [] t h = record { statuses = refl; run = refl; bytes = refl; output = append-nil (outputSo t); fits = h }
-  same (c ∷ cs) t h =
-      let o : One t c = one t c h in
-      let s : Same (transcribe U t c .left) cs = same cs (transcribe U t c .left) (o .fits) in
-      let rest : List ℕ = joined (history (perform U M) (runOf U M (transcribe U t c .left)) cs .bytes) in
-      record {
-        statuses = rw (o .reply-is, s .statuses);
-        run = ap (λ (r : Reply (Run S)). history (perform U M) (r .left) cs .left) (o .reply-is) ∙ s .run;
-        bytes = rw (o .reply-is, s .bytes);
-        output = rw (o .reply-is) (sym (append-assoc (outputSo t) _ rest) ∙ ap (λ (x : List ℕ). x ++ rest) (o .extends) ∙ s .output);
-        fits = s .fits;
-      }
+  same : (cs : List (Call A)) (t : Transcript A) → Fits U t → Same (perform U M) (transcribe U) (runOf U M) (Fits U) (outputSo U) t cs
+  same = follows (perform U M) (transcribe U) (runOf U M) (Fits U) (outputSo U) one
 
   pub streaming : (cs : List (Call A)) → Streaming U M cs
-  unfolding outputSo
   streaming cs =
-      let s : Same freshTranscript cs = same cs freshTranscript (fits-fresh U) in
+      let s : Same (perform U M) (transcribe U) (runOf U M) (Fits U) (outputSo U) freshTranscript cs = same cs freshTranscript (fits-fresh U) in
       let e : M .absorb 0 (M .fresh) [] ≡ M .fresh = L .absorb-nothing 0 (M .fresh) in
       record { statuses = rw e at (s .statuses); bytes = rw e at (s .bytes); run = rw e at (s .run); output = rw e at (s .output) }
 
