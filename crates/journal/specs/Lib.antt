@@ -1,2 +1,5 @@
+pub mod Published
 pub mod Transcript
 pub mod Model
+pub mod Streaming
+pub mod Inside

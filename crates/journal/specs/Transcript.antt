@@ -1,13 +1,16 @@
--- What the transcript of a day, document 01's book, says: KT128's, whose customization string is the station's name. Appending an event is
--- an absorb of its bytes, with nothing before or after them: the digest of a day is kt128 of the joined events and the name.
+-- What the transcript of a day, document 01's book, says. It is that of a run of KT128, whose customization string is the station's name;
+-- `absorb e` is the call that appends the event e, and what it adds to the bytes absorbed is the event with its length encoding (request Q-1).
 -- Assumes nothing.
 use mathlib.Core.List.{List}
 use mathlib.Core.Bool.{cond}
 use Prim.Native.Nat.{ℕ}
+use lib.ListN.{length}
 use lib.Dec.{leb}
 use Rattle.sponge.specs.Status.{done, eventTooLong}
-use Rattle.sponge.specs.Transcript.{Rules, withPieces}
+use Rattle.sponge.specs.Transcript as sponge
+use Rattle.sponge.specs.Transcript.{Call, Call.absorb, Call.finalize, Call.squeeze, Transcript, Rules, Reply, withPieces}
 use Rattle.kangarootwelve.specs.Transcript as kangarootwelve
+use Rattle.journal.specs.Published.{framed}
 
 -- the most bytes of an event
 abbrev pub eventLimit : ℕ
@@ -17,6 +20,23 @@ eventLimit = 65535
 unfoldable pub eventStatus : ℕ → ℕ
 eventStatus n = cond (leb n eventLimit) done eventTooLong
 
--- KT128 (rate 168, chaining values of 32 bytes), with 8 for a long event; `statusOf` has a piece's own status after 3 and before 2
-unfoldable pub rules : Rules (List ℕ)
-rules = withPieces (kangarootwelve.rules 168 32) eventStatus
+-- the status that a call has by itself: an event's
+abbrev pub ownStatus : Call (List ℕ) → ℕ
+ownStatus (absorb e) = eventStatus (length e)
+ownStatus (finalize name) = done
+ownStatus (squeeze k) = done
+
+-- a call on a day as one on the run below
+abbrev pub framedCall : Call (List ℕ) → Call (List ℕ)
+framedCall (absorb e) = absorb (framed e)
+framedCall (finalize name) = finalize name
+framedCall (squeeze k) = squeeze k
+
+-- the rules at a call: those of KT128 (rate 168, chaining values of 32 bytes), where a piece has the status of the event that it comes
+-- from; `statusOf` has it after 3 and before 2
+unfoldable pub rulesAt : Call (List ℕ) → Rules (List ℕ)
+rulesAt c = withPieces (kangarootwelve.rules 168 32) (λ n. ownStatus c)
+
+-- what the book answers to a call, and what it is then
+unfoldable pub transcribe : Transcript (List ℕ) → Call (List ℕ) → Reply (Transcript (List ℕ))
+transcribe t c = sponge.transcribe (rulesAt c) t (framedCall c)

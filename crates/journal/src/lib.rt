@@ -1,10 +1,13 @@
-// A day of events: a run of KT128 whose customization string is the station's name and whose message is the day's events joined in order.
+// A day of events: a run of KT128 whose customization string is the station's name and whose message is the day's events in order, each
+// followed by its length encoding.
 ghost use mathlib.Core.Path.{_≡_};
+ghost use mathlib.Core.List.{_++_};
 ghost use lib.ListN.{length};
 ghost use Rattle.sponge.specs.Status.{eventTooLong, firstOf};
 ghost use Rattle.sponge.specs.Transcript.{Call};
 ghost use Rattle.kangarootwelve.specs.Model as kt;
 ghost use Rattle.journal.specs.Model.{freshDay, answerOf, outputOf};
+ghost use Rattle.journal.specs.Inside.{asDay};
 use kangarootwelve::Answer128;
 use kangarootwelve::Kt128;
 use kangarootwelve::Run;
@@ -46,14 +49,35 @@ fn long_status(tried: u8) -> u8
     status::EVENT_TOO_LONG
 }
 
-// Refuses a long event. What the run says of itself is asked with an empty one, whose answer is not kept.
+// The day as it was given, with a refusal.
+fn refused(given: Run, status: u8) -> Answer
+    ensures { λ r. ⌜ r ≡ record { journal = record { run = given }; status = status } ⌝ }
+{
+    let journal = Journal { run: given };
+    Answer { journal, status }
+}
+
+// Refuses a long event. What the run says of itself is asked with an empty piece, whose answer is not kept.
 fn refuse_event(given: Run, empty: &[u8]) -> Answer
     ensures { λ r. ⌜ r ≡ record { journal = record { run = given }; status = firstOf (kt.answerOf 168 32 given (Call.absorb (now (empty .entry))) .status) eventTooLong } ⌝ }
 {
     let tried = Kt128 { run: given }.absorb(empty);
-    let journal = Journal { run: given };
-    let status = long_status(tried.status);
-    Answer { journal, status }
+    refused(given, long_status(tried.status))
+}
+
+// Absorbs two pieces in a row, both or neither: what the joined piece gets.
+fn absorb_both(given: Run, first: &[u8], second: &[u8]) -> Answer
+    ensures { λ r. ⌜ r ≡ asDay (kt.answerOf 168 32 given (Call.absorb (now (first .entry) ++ now (second .entry)))) ⌝ }
+{
+    let one = Kt128 { run: given }.absorb(first);
+    if one.status != status::DONE {
+        return refused(given, one.status);
+    }
+    let both = one.hasher.absorb(second);
+    if both.status != status::DONE {
+        return refused(given, both.status);
+    }
+    answer_of(both)
 }
 
 impl Journal {
@@ -66,7 +90,7 @@ impl Journal {
         Journal { run }
     }
 
-    // Appends an event; one that is too long is not taken at all.
+    // Appends an event with its length encoding. One that is too long, or does not fit with its encoding, is not taken at all.
     pub fn append(self, event: &[u8]) -> Answer
         ensures { λ r. ⌜ r ≡ answerOf self (Call.absorb (now (event .entry))) ⌝ }
     {
@@ -74,7 +98,10 @@ impl Journal {
         if EVENT_LIMIT < event.len() as u64 {
             return refuse_event(run, &event[0..0]);
         }
-        answer_of(Kt128 { run }.absorb(event))
+        let encoding = kangarootwelve::length_encode(event.len() as u64);
+        let bytes = encoding.bytes;
+        let start = encoding.start;
+        absorb_both(run, event, &bytes[start..9])
     }
 
     // Ends the day under the station's name.

@@ -3,20 +3,16 @@
 -- Assumes nothing.
 use mathlib.Core.Path.{_≡_, refl}
 use mathlib.Core.List.{List, []}
-use mathlib.Core.Bool.{Bool, true, false, cond}
+use mathlib.Core.Bool.{Bool, true, false}
 use Prim.Native.Nat.{ℕ, suc, _≤_}
 use native.Mathlib.Nat.{add-zero}
-use native.Mathlib.Omega.{arith}
 use lib.ListN.{length}
 use lib.Dec.{eqb}
 use borrow.Author.Tests.{le-leb}
 use Rattle.sponge.specs.Status.{firstOf}
 use Rattle.sponge.specs.Transcript.{Call.absorb, Call.finalize, Call.squeeze, Phase, Phase.absorbing, Phase.squeezing, Transcript, Rules, withPieces, transcribe}
 use Rattle.sponge.specs.Runs.{Run, Machine, perform}
-use Rattle.sponge.proofs.FirstStatus.{first-zero}
 use Rattle.sponge.proofs.Streaming.{Fits, Laws}
-use Rattle.sponge.proofs.Joining.{Stays}
-use Rattle.sponge.proofs.Reachable.{Shape}
 
 -- ---- what is owed
 
@@ -43,23 +39,6 @@ module _ {S A : Type 0} (U : Rules A) (M : Machine S A) (piece : ℕ → ℕ) wh
     squeeze-output = L .squeeze-output;
     run-reachable = λ t h. L .run-reachable t (fits-without U piece t h);
   }
-
-  module _ (all-taken : (n : ℕ) → U .piece n ≡ 0) where
-    piece-zero : (o : Bool) (m s n : ℕ) → m ≡ 0 → cond o (firstOf s n) 3 ≡ 0 → cond o (firstOf m n) 3 ≡ 0
-    piece-zero true m s n z e = rw z (first-zero s n e)
-    piece-zero false m s n z e = absurd (omega arith)
-
-    pub stays : Stays U M → Stays (withPieces U piece) M
-    stays keep r (absorb p) h e = keep r (absorb p) h (piece-zero (eqb (r .phase) 0) (U .piece (length p)) (piece (length p)) _ (all-taken (length p)) e)
-    stays keep r (finalize a) h e = keep r (finalize a) h e
-    stays keep r (squeeze k) h e = keep r (squeeze k) h e
-
-  module _ (positions : S → List ℕ) (due : ℕ → ℕ → ℕ → List ℕ) (r : Run S) where
-    pub shape : Shape U positions due r → Shape (withPieces U piece) positions due r
-    shape t = record { phase-fits = t .phase-fits; absorbed-fits = t .absorbed-fits; squeezed-fits = t .squeezed-fits; positions-due = t .positions-due }
-
-    pub shaped : Shape (withPieces U piece) positions due r → Shape U positions due r
-    shaped t = record { phase-fits = t .phase-fits; absorbed-fits = t .absorbed-fits; squeezed-fits = t .squeezed-fits; positions-due = t .positions-due }
 
   -- ---- what a call does, to a run and to a transcript
 
