@@ -1,5 +1,6 @@
-// A day at a station, hashed twice. The shift appends each event to a journal as it comes; the clerk has the whole day in one buffer
-// and hashes it in one go. The station's name is the customization string of both, and both have the same digest.
+// A day at a station, hashed twice. The shift appends each event to a journal as it comes; the clerk has the whole day in one buffer, each
+// event followed by its length encoding, and hashes it in one go. The station's name is the customization string of both, and both have
+// the same digest.
 //
 // Writes a line for each: `shift` or `clerk`, and the 32 bytes of the digest in hex; or `refused`, and the status of a call that was
 // not answered 0.
@@ -8,8 +9,7 @@ ghost use mathlib.Core.List.{[], _∷_, _++_};
 ghost use Prim.Native.Nat.{_+_, _≤_};
 ghost use lib.ListN.{length, take};
 ghost use Rattle.sponge.specs.Status.{done};
-ghost use Rattle.sponge.specs.Streaming.{joined};
-ghost use Rattle.kangarootwelve.specs.Published.{kt128};
+ghost use Rattle.journal.specs.Published.{framed, digest};
 use journal::Journal;
 use kangarootwelve::Kt128;
 use libc::STDOUT_FILENO;
@@ -24,8 +24,8 @@ fn fill(dump: &mut [u8]) {
     }
 }
 
-// The shift's part: a call for each event, as it comes. Answers the first status that is not 0; or 0, and then `out` holds KT128 of
-// the joined events under the name.
+// The shift's part: a call for each event, as it comes. Answers the first status that is not 0; or 0, and then `out` holds the digest of
+// the events under the name.
 fn shift(
     on: &[u8],
     level: &[u8],
@@ -35,7 +35,7 @@ fn shift(
     name: &[u8],
     out: &mut [u8],
 ) -> u8
-    ensures { λ r. ⌜ (r ≡ done → now (out .exit) ≡ kt128 (joined (now (on .entry) ∷ now (level .entry) ∷ now (quiet .entry) ∷ now (dump .entry) ∷ now (off .entry) ∷ [])) (now (name .entry)) (length (now (out .entry)))) ⌝ }
+    ensures { λ r. ⌜ (r ≡ done → now (out .exit) ≡ digest (now (on .entry) ∷ now (level .entry) ∷ now (quiet .entry) ∷ now (dump .entry) ∷ now (off .entry) ∷ []) (now (name .entry)) (length (now (out .entry)))) ⌝ }
 {
     let day = Journal::fresh();
     let first = day.append(on);
@@ -65,21 +65,34 @@ fn shift(
     ended.journal.squeeze(out).status
 }
 
-// Copies an event into the day's bytes from `at` on, and answers where the next one goes.
-fn put(day: &mut [u8], at: usize, event: &[u8]) -> usize
-    requires { ⌜ at + length (now event) ≤ length (now day) ⌝ }
-    ensures { λ r. ⌜ r ≡ at + length (now (event .entry)) ⌝ }
-    ensures { λ r. ⌜ take r (now (day .exit)) ≡ take at (now (day .entry)) ++ now (event .entry) ⌝ }
+// Copies a part into the day's bytes from `at` on, and answers where the next one goes.
+fn put(day: &mut [u8], at: usize, part: &[u8]) -> usize
+    requires { ⌜ at + length (now part) ≤ length (now day) ⌝ }
+    ensures { λ r. ⌜ r ≡ at + length (now (part .entry)) ⌝ }
+    ensures { λ r. ⌜ take r (now (day .exit)) ≡ take at (now (day .entry)) ++ now (part .entry) ⌝ }
 {
     let mut i: usize = 0;
-    while i < event.len() {
-        day[at + i] = event[i];
+    while i < part.len() {
+        day[at + i] = part[i];
         i += 1;
     }
     at + i
 }
 
-// The clerk's part: the events joined in `day`, and one call. Answers its status; where that is 0, `out` holds the same.
+// Puts an event and its length encoding, which is at most nine bytes.
+fn put_event(day: &mut [u8], at: usize, event: &[u8]) -> usize
+    requires { ⌜ at + length (now event) + 9 ≤ length (now day) ⌝ }
+    ensures { λ r. ⌜ r ≤ at + length (now (event .entry)) + 9 ⌝ }
+    ensures { λ r. ⌜ take r (now (day .exit)) ≡ take at (now (day .entry)) ++ framed (now (event .entry)) ⌝ }
+{
+    let end = put(day, at, event);
+    let encoding = kangarootwelve::length_encode(event.len() as u64);
+    let bytes = encoding.bytes;
+    let start = encoding.start;
+    put(day, end, &bytes[start..9])
+}
+
+// The clerk's part: the day's message put together in `day`, and one call. Answers its status; where that is 0, `out` holds the same.
 fn clerk(
     on: &[u8],
     level: &[u8],
@@ -90,14 +103,14 @@ fn clerk(
     name: &[u8],
     out: &mut [u8],
 ) -> u8
-    requires { ⌜ length (now on) + length (now level) + length (now quiet) + length (now dump) + length (now off) ≤ length (now day) ⌝ }
-    ensures { λ r. ⌜ (r ≡ done → now (out .exit) ≡ kt128 (joined (now (on .entry) ∷ now (level .entry) ∷ now (quiet .entry) ∷ now (dump .entry) ∷ now (off .entry) ∷ [])) (now (name .entry)) (length (now (out .entry)))) ⌝ }
+    requires { ⌜ length (now on) + length (now level) + length (now quiet) + length (now dump) + length (now off) + 45 ≤ length (now day) ⌝ }
+    ensures { λ r. ⌜ (r ≡ done → now (out .exit) ≡ digest (now (on .entry) ∷ now (level .entry) ∷ now (quiet .entry) ∷ now (dump .entry) ∷ now (off .entry) ∷ []) (now (name .entry)) (length (now (out .entry)))) ⌝ }
 {
-    let mut end = put(day, 0, on);
-    end = put(day, end, level);
-    end = put(day, end, quiet);
-    end = put(day, end, dump);
-    end = put(day, end, off);
+    let mut end = put_event(day, 0, on);
+    end = put_event(day, end, level);
+    end = put_event(day, end, quiet);
+    end = put_event(day, end, dump);
+    end = put_event(day, end, off);
     Kt128::hash(&day[..end], name, out)
 }
 
@@ -126,8 +139,8 @@ fn main() {
     let mut shift_digest = [0u8; 32];
     let shift_status = shift(on, level, quiet, &dump, off, name, &mut shift_digest);
 
-    // As long as the five events: 16, 23, 0, 9,000 and 17 bytes.
-    let mut day = [0u8; 9056];
+    // Room for the five events, 16, 23, 0, 9,000 and 17 bytes, and for nine bytes of encoding after each.
+    let mut day = [0u8; 9101];
     let mut clerk_digest = [0u8; 32];
     let clerk_status = clerk(
         on,

@@ -1,4 +1,4 @@
--- `day::put` meets its contract. The invariant: the first i bytes of the event follow those before `at`. The measure is the number of
+-- `day::put` meets its contract. The invariant: the first i bytes of the part follow those before `at`. The measure is the number of
 -- bytes not yet copied.
 -- Assumes nothing.
 use mathlib.Core.Path.{_≡_, refl, sym, ap, _∙_}
@@ -25,10 +25,10 @@ turn d d₀ s at i h more e =
     ∙ ap (λ (l : List ℕ). take at d₀ ++ l) (sym (take-suc s i 0 more) ∙ ap (λ (k : ℕ). take k s) (sym (add-one i)))
 
 abbrev Inv-loop : tie.InvT-loop
-Inv-loop day₀ at event i₀ day i = (i ≤ length event) × (length day ≡ length day₀) × (take (at + i) day ≡ take at day₀ ++ take i event)
+Inv-loop day₀ at part i₀ day i = (i ≤ length part) × (length day ≡ length day₀) × (take (at + i) day ≡ take at day₀ ++ take i part)
 
 abbrev μ-loop : tie.MeasureT-loop
-μ-loop day₀ at event i₀ day i = length event - i
+μ-loop day₀ at part i₀ day i = length part - i
 
 loop-holds : tie.Need-loop-holds Inv-loop μ-loop
 loop-holds c =
@@ -54,12 +54,12 @@ loop-again : tie.Need-loop-again Inv-loop μ-loop
 loop-again c =
     let a = c .before .before .before .args in
     let l = c .before .before .loop in
-    let more : l .i < length (a .event .now) = c .before .loop-test .taken in
-    let room : a .at + length (a .event .now) ≤ length (a .day .now) = c .before .before .before .pre in
+    let more : l .i < length (a .part .now) = c .before .loop-test .taken in
+    let room : a .at + length (a .part .now) ≤ length (a .day .now) = c .before .before .before .pre in
     let same : length (l .day) ≡ length (a .day .now) = l .inv .1 in (
       omega (arith, more),
       length-set (l .day) (a .at + l .i) _ ∙ same,
-      turn (l .day) (a .day .now) (a .event .now) (a .at) (l .i) (omega (arith, more, room, same)) more (l .inv .2),
+      turn (l .day) (a .day .now) (a .part .now) (a .at) (l .i) (omega (arith, more, room, same)) more (l .inv .2),
     )
 
 add-result : tie.Need-add-result Inv-loop μ-loop
@@ -72,9 +72,9 @@ returns : tie.Need-returns Inv-loop μ-loop
 returns c =
     let a = c .before .before .args in
     let l = c .before .loop in
-    let all : length (a .event .now) ≤ l .i = omega (arith, c .loop-test .left) in
-    let end : l .i ≡ length (a .event .now) = omega (arith, all, l .inv .0) in
-    (ap (λ (k : ℕ). a .at + k) end, l .inv .2 ∙ ap (λ (x : List ℕ). take (a .at) (a .day .now) ++ x) (take-all (l .i) (a .event .now) all))
+    let all : length (a .part .now) ≤ l .i = omega (arith, c .loop-test .left) in
+    let end : l .i ≡ length (a .part .now) = omega (arith, all, l .inv .0) in
+    (ap (λ (k : ℕ). a .at + k) end, l .inv .2 ∙ ap (λ (x : List ℕ). take (a .at) (a .day .now) ++ x) (take-all (l .i) (a .part .now) all))
 
 pub put-spec : {M : Type 1} → statement M
 put-spec =
