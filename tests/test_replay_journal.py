@@ -6,8 +6,8 @@ import unittest
 
 import reference
 from kt_lists import BIG, CHUNK, CUSTOM, LIMIT, STREAMS, KtLists, fit
-from replay import ABSORBED, LANES, LEAF_LANES, MOST, PHASE, POSITION, SQUEEZED, Calls, Held
-from transcript import DAY, FINALIZED, HOPMAC, KT, Limits
+from replay import ABSORBED, LANES, LEAF_LANES, LEAF_POSITION, MOST, PHASE, POSITION, SQUEEZED, Calls, Held
+from transcript import ABSORBING, DAY, FINALIZED, HOPMAC, KT, Limits
 
 CALLS = 10_000  # of all ops together
 EVENT = Limits.EVENT_LIMIT
@@ -15,6 +15,8 @@ EVENT = Limits.EVENT_LIMIT
 REFUSED = EVENT + 1, EVENT + 2  # the shortest events that are refused
 LONG = 2 * STREAMS[0]
 STATION = b"Hanbeorit station 3"
+# What an event of so many bytes has after it, by hand.
+LENGTHS = {0: b"\0", 1: b"\1\1", 255: b"\xff\1", 256: b"\1\0\2", EVENT: b"\xff\xff\2"}
 
 
 def event_of(size):
@@ -176,6 +178,116 @@ class Days(Held):
                 calls.set(field, value)
             fit(calls)
             self.answered(calls, 5, 0, 1, EVENT, *REFUSED)
+        self.hold(calls)
+
+    def test_order_at_the_limit(self):
+        """With no byte left 2 is due to every event. 8 wins over it, 3 over both, 5 over all three."""
+        calls = Calls()
+        self.with_left(calls, JOURNAL, 0)
+        self.answered(calls, 8, *REFUSED, MOST)
+        self.answered(calls, 2, 0, 1, EVENT)
+        for phase, status in ((FINALIZED, 3), (2, 5)):
+            calls.set(PHASE, phase)
+            fit(calls)
+            self.answered(calls, status, 0, 1, EVENT, *REFUSED, MOST)
+        for phase in (ABSORBING, FINALIZED):
+            calls.set(PHASE, phase)
+            for field, wrong in ((POSITION, 169), (LEAF_POSITION, 3)):
+                fit(calls)
+                calls.set(field, wrong)
+                self.answered(calls, 5, 0, 1, EVENT, *REFUSED, MOST)
+        self.hold(calls)
+
+    def test_whole_or_not_at_all(self):
+        """An event that ends with its length one byte below the limit or at it is taken; above it, it is refused and the day is as it was.
+
+        Above it are also those that would fit without their length, and those that would fit with a part of it.
+        """
+        calls = Calls()
+        for size, encoded in LENGTHS.items():
+            event = STREAMS[0][:size]
+            for spare in (1, 0):
+                dumps = []
+                for function, piece in ((JOURNAL, event), (2, event + encoded)):
+                    self.with_left(calls, function, len(event + encoded) + spare)
+                    calls.absorb(piece)
+                    calls.dump()
+                    dumps.append(calls.expected[-1][2])
+                    self.assertEqual((calls.expected[-2][2], calls.run.absorbed), ("0", LIMIT - spare), "the test itself is wrong")
+                self.assertEqual(dumps[0], dumps[1], "the test itself is wrong")
+            for left in range(max(0, size - 1), size + len(encoded)):
+                self.with_left(calls, JOURNAL, left)
+                calls.dump()
+                calls.absorb(event)
+                before, status, after = (line for _, _, line in calls.expected[-3:])
+                self.assertEqual((status, after), ("2", before), "the test itself is wrong")
+                calls.finalize(STATION)
+                calls.squeeze(32)
+        self.assertEqual((calls.answers["A", 0], calls.answers["A", 2]), (5 * 2 * 2, 1 + 3 + 3 + 4 + 4), "the test itself is wrong")
+        self.hold(calls)
+
+    def day(self, calls, *events, name=STATION):
+        """A day of these events; the line of its digest."""
+        calls.fresh(JOURNAL)
+        for event in events:
+            calls.absorb(event)
+        calls.finalize(name)
+        calls.squeeze(32)
+        return calls.expected[-1][2]
+
+    def test_same_bytes_joined(self):
+        """The days of request Q-1, `AB`, `C` and `A`, `BC`, and one of `ABC`: each digest is that of its own message."""
+        calls = Calls()
+        messages = {(b"AB", b"C"): "41 42 02 01 43 01 01", (b"A", b"BC"): "41 01 01 42 43 02 01", (b"ABC",): "41 42 43 03 01"}
+        for name in (b"", STATION):
+            lines = set()
+            for events, message in messages.items():
+                line = self.day(calls, *events, name=name)
+                calls.kt_one_go(2, bytes.fromhex(message), name, 32)
+                self.assertEqual(line, calls.expected[-1][2], "the test itself is wrong")
+                lines.add(line)
+            self.assertEqual(len(lines), 3)
+        self.hold(calls)
+
+    def test_empty_events(self):
+        """Each adds one byte, 00: days that differ in their empty events alone have digests that differ."""
+        calls = Calls()
+        calls.fresh(JOURNAL)
+        totals = []
+        for event in (b"", b"", b"", b"A", b""):
+            calls.absorb(event)
+            calls.dump()
+            totals.append(int(calls.expected[-1][2].split()[1], 16))
+        self.assertEqual(totals, [1, 2, 3, 6, 7], "the test itself is wrong")
+        days = (), (b"",), (b"", b""), (b"", b"", b""), (b"A",), (b"A", b""), (b"", b"A"), (b"A", b"", b"")
+        lines = [self.day(calls, *events) for events in days]
+        for count, line in enumerate(lines[:4]):
+            self.assertEqual(line, f"0 {reference.kt128(bytes(count), STATION, 32).hex()}", "the test itself is wrong")
+        self.assertEqual(len(set(lines)), len(days))
+        self.hold(calls)
+
+    def test_refused_events_leave_no_trace(self):
+        """The digest is that of the other events, wherever in a day events were refused: by 8, or by 2 with few bytes left."""
+        calls = Calls()
+        events = STREAMS[2][:40], b"", STREAMS[2][40 : CHUNK + 30], STREAMS[2][:300]
+        digest = reference.kt128(reference.day_message(events), STATION, 32)
+        for place in range(len(events) + 1):
+            for refused in (LONG[: EVENT + 1], LONG[:MOST]):
+                line = self.day(calls, *events[:place], refused, refused, *events[place:])
+                self.assertEqual(line, f"0 {digest.hex()}", "the test itself is wrong")
+        lines = set()
+        for refused in ((), (28,), (29,), (30,), (300,), (EVENT,), (EVENT + 1, 29, 28)):
+            # 12 bytes for an event of 10, one for an empty one, and 29, which an event of 27 fills and the refused ones would pass
+            self.with_left(calls, JOURNAL, 42)
+            self.answered(calls, 0, 10, 0)
+            for size in refused:
+                self.answered(calls, 8 if size > EVENT else 2, size)
+            self.answered(calls, 0, 27)
+            self.answered(calls, 2, *refused[-1:], 0)
+            calls.finalize(STATION)
+            calls.squeeze(32)
+            lines.add(calls.expected[-1][2])
+        self.assertEqual(len(lines), 1, "the test itself is wrong")
         self.hold(calls)
 
     def test_same_as_in_one_go(self):
