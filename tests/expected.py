@@ -149,16 +149,17 @@ def edges_output():
 
 
 def day_output():
-    """Two lines: `shift` and the digest of a journal that took the events one by one; `clerk` and that of the day's bytes in one go.
+    """Two lines: `shift` and the digest of a journal that took the events one by one; `clerk` and that of the day's message in one go.
 
-    Both are KT128 of the events joined, with the station's name as customization string: 32 bytes, in lower-case hex.
+    Both are KT128 of the events, each with its length (request Q-1), with the station's name as customization string: 32 bytes, in
+    lower-case hex.
     """
     day = transcript.book_of(4)
     for event in EVENTS:
         day.absorb(event)
     day.finalize(STATION)
     _, shift = day.squeeze(32)
-    clerk = reference.kt128(b"".join(EVENTS), STATION, 32)
+    clerk = reference.kt128(reference.day_message(EVENTS), STATION, 32)
     return f"shift {shift.hex()}\nclerk {clerk.hex()}\n"
 
 

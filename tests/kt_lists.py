@@ -98,10 +98,14 @@ class KtLists:
     def fresh(self):
         self.calls.fresh(self.source.choice(self.FUNCTIONS))
 
+    def filling(self, size):
+        """The length of a piece that adds so many bytes to the total."""
+        return size
+
     def piece(self, stream):
         """The next bytes of the stream."""
         at = self.calls.run.absorbed
-        return stream[at : at + min(length(self.source, self.calls.rate, at), self.LONGEST - at)]
+        return stream[at : at + min(self.filling(length(self.source, self.calls.rate, at)), self.LONGEST - at)]
 
     def one_go(self):
         """In one go by KT; seldom by TurboSHAKE, which must leave no trace."""
@@ -162,9 +166,9 @@ class KtLists:
         stream = source.choice(STREAMS)
         self.fresh()
         start = source.choice((1, 2, 3)) * CHUNK - 3
-        calls.absorb(stream[:start])
+        calls.absorb(stream[: self.filling(start)])
         for at in range(start, start + source.randrange(2, 7)):
-            calls.absorb(stream[at : at + 1])
+            calls.absorb(stream[at : at + self.filling(1)])
             calls.dump()
         calls.finalize(CUSTOM[: source.randrange(4)])
         calls.dump()
@@ -192,7 +196,7 @@ class KtLists:
         if kind == 0:
             calls.finalize(CUSTOM if source.randrange(4) == 0 else custom(source, run.absorbed))
         elif kind < 6:
-            calls.absorb(STREAMS[0][:size])
+            calls.absorb(STREAMS[0][: self.filling(size)])
         else:
             calls.squeeze(size)
 

@@ -20,9 +20,10 @@ KEY = b"key"
 TAG = reference.hopmac128(KEY, MESSAGE, CUSTOM, 64)
 TAG_256 = reference.hopmac256(KEY, b"abc", b"", 64)
 EVENTS = (b"06:00 pump 3 on\n", b"", b"22:00 pump 3 off\n")
-DAY = b"".join(EVENTS)
+DAY = reference.day_message(EVENTS)
 STATION = b"Hanbeorit station 3"
 DAY_DIGEST = reference.kt128(DAY, STATION, 37).hex()
+LAST_NODE = (CHUNK + 8 + 524_286 * 32 - 1) % 168 + 1  # the position of the final node near the limit of what is absorbed
 
 
 def counted(data, n=None):
@@ -155,14 +156,19 @@ SAMPLE = [
     (record("R", n=32), "0 " + DAY_DIGEST[:64]),
     (record("R", n=5), "0 " + DAY_DIGEST[64:]),
     (kt_one_go(2, STATION, 37, DAY), "0 " + DAY_DIGEST),
-    # at the limit of what is absorbed, an event that is too long as well
+    # one byte below the limit of what is absorbed: an event of one byte needs three, an empty one the byte that is left
     (record("N", b"\4"), "fresh"),
-    (field(1, LIMIT), "set"),
-    (field(3, (CHUNK + 8 + 524_286 * 32 - 1) % 168 + 1), "set"),
-    (field(4, (CHUNK - 1 - 1) % 168 + 1), "set"),
+    (field(1, LIMIT - 1), "set"),
+    (field(3, LAST_NODE), "set"),
+    (field(4, (CHUNK - 2 - 1) % 168 + 1), "set"),
+    (record("A", b"b"), "2"),
+    (record("D"), run_line(0, LIMIT - 1, 0, LAST_NODE, 126, *[0] * 50)),
+    (record("A", b""), "0"),
+    (record("D"), run_line(0, LIMIT, 0, LAST_NODE, 127, *[0] * 50)),
+    # at the limit, an event that is too long as well
     (record("A", bytes(65_536)), "8"),
     (record("A", b"a"), "2"),
-    (record("A", b""), "0"),
+    (record("A", b""), "2"),
     (record("Z"), "bad record"),
     # nothing is answered after that
     (record("N", b"\0"), None),

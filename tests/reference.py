@@ -1,7 +1,7 @@
 #!/usr/bin/env python3
-"""The independent second program: Keccak-p[1600], TurboSHAKE, KangarooTwelve and HopMAC in Python, from the papers alone.
+"""The independent second program: Keccak-p[1600], TurboSHAKE, KangarooTwelve, HopMAC and a day's message in Python, from the papers alone.
 
-Written from FIPS 202 (sections 3.2 to 3.4) and draft-irtf-cfrg-kangarootwelve-16 (sections 2 to 4), never from the Rattle
+Written from FIPS 202 (sections 3.2 to 3.4), draft-irtf-cfrg-kangarootwelve-16 (sections 2 to 4) and request Q-1, never from the Rattle
 sources. Both tables are computed from the standard's own rules. Standard library only.
 
   reference.py permutation     what the program `permutation` writes
@@ -155,6 +155,11 @@ def hopmac128(key, message, custom, length):
 
 def hopmac256(key, message, custom, length):
     return hopmac(kt256, 64, key, message, custom, length)
+
+
+def day_message(events):
+    """Request Q-1: each event followed by length_encode of its length, in order. An empty event adds 00."""
+    return b"".join(bytes(event) + length_encode(len(event)) for event in events)
 
 
 def ptn(n):

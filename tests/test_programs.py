@@ -43,12 +43,14 @@ class Output(unittest.TestCase):
         self.assertEqual([line for line in lines if "status" in line], refused)
 
     def test_day(self):
-        """Shift and clerk come to the same digits; the day's 9,056 bytes and the name are two chunks."""
+        """Shift and clerk come to the same digits; the day's message, 9,066 bytes, and the name are two chunks."""
         shift, clerk = (line.split(" ") for line in expected.day_output().splitlines())
         self.assertEqual((shift[0], clerk[0], shift[1], len(shift[1])), ("shift", "clerk", clerk[1], 64))
-        joined = b"06:00 pump 3 on\n06:02 level 3 at 41 cm\n" + reference.ptn(9000) + b"22:00 pump 3 off\n"
-        s = joined + b"Hanbeorit station 3" + b"\x13\x01"
-        self.assertEqual((len(joined), len(reference.chunks(s))), (9056, 2))
+        # 16, 23, 0, 9,000 and 17 bytes
+        message = b"06:00 pump 3 on\n" + b"\x10\x01" + b"06:02 level 3 at 41 cm\n" + b"\x17\x01" + b"\x00"
+        message += reference.ptn(9000) + b"\x23\x28\x02" + b"22:00 pump 3 off\n" + b"\x11\x01"
+        s = message + b"Hanbeorit station 3" + b"\x13\x01"
+        self.assertEqual((len(message), len(reference.chunks(s))), (9066, 2))
         self.assertEqual(shift[1], reference.turboshake(168, *reference.final_node(168, 32, s), 32).hex())
 
 

@@ -1,5 +1,6 @@
 """The second program is held to what nobody here wrote, and to the standard's bit-by-bit text."""
 import hashlib
+import itertools
 import random
 import unittest
 
@@ -126,6 +127,44 @@ class KangarooTwelve(unittest.TestCase):
         self.assertEqual(reference.kt128(reference.ptn(17**3), b"", 32).hex().upper(), digest)
         digest = "FAB658DB63E94A246188BF7AF69A133045F46EE984C56E3C3328CAAF1AA1A583"
         self.assertEqual(reference.kt128(b"", reference.ptn(1), 32).hex().upper(), digest)
+
+
+class Day(unittest.TestCase):
+    """A day's message, by request Q-1."""
+
+    def test_by_hand(self):
+        days = {
+            (): "",
+            (b"",): "00",
+            (b"", b""): "00 00",
+            (b"AB", b"C"): "41 42 02 01 43 01 01",
+            (b"A", b"BC"): "41 01 01 42 43 02 01",
+            (b"ABC",): "41 42 43 03 01",
+            (b"AB", b"", b"C"): "41 42 02 01 00 43 01 01",
+            (bytes(12),): "00 " * 12 + "0C 01",
+            (bytes(255), b"A"): "00 " * 255 + "FF 01 41 01 01",
+            (bytes(256), b"A"): "00 " * 256 + "01 00 02 41 01 01",
+            (bytes(65_535), b"A"): "00 " * 65_535 + "FF FF 02 41 01 01",
+        }
+        for events, message in days.items():
+            self.assertEqual(reference.day_message(events), bytes.fromhex(message))
+
+    def lists(self, room):
+        """Every list of events of the bytes 00, 01 and 02 that so many bytes have room for: 1 for an empty event, n + 2 for one of n bytes."""
+        yield ()
+        for size in (n for n in range(room) if n == 0 or n + 2 <= room):
+            for event in itertools.product(range(3), repeat=size):
+                for others in self.lists(room - size - (2 if size else 1)):
+                    yield bytes(event), *others
+
+    def test_different_lists_have_different_messages(self):
+        """Up to nine bytes, of which the encodings have some too."""
+        lists = list(self.lists(9))
+        messages = {reference.day_message(events) for events in lists}
+        self.assertEqual(max(map(len, messages)), 9)
+        self.assertEqual(len(messages), len(lists))
+        self.assertEqual(len(set(lists)), len(lists))
+        self.assertGreater(len(lists), 10_000)
 
 
 class HopMac(unittest.TestCase):

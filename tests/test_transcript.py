@@ -100,20 +100,21 @@ class Agreement(unittest.TestCase):
 
     def test_random_kt_lists(self):
         """Through up to four chunks; a piece often ends at, one before or one past a chunk's end."""
-        self.chunked_lists(ShortKtTranscript, ShortKtRun, KT, (0, 2, 3))
+        self.chunked_lists(ShortKtTranscript, ShortKtRun, KT, (0, 2, 3), range(-1, 2))
 
     def test_random_day_lists(self):
-        self.chunked_lists(ShortDayTranscript, ShortDayRun, DAY, (0, 2, 3, 8))
+        """So does an event, with or without its length, of at most three bytes."""
+        self.chunked_lists(ShortDayTranscript, ShortDayRun, DAY, (0, 2, 3, 8), range(-4, 2))
 
-    def chunked_lists(self, book_kind, run_kind, rates, absorbed):
-        """`absorbed` has the answers that pieces are to meet."""
+    def chunked_lists(self, book_kind, run_kind, rates, absorbed, ends):
+        """`absorbed` has the answers that pieces are to meet, `ends` how far from a chunk's end they often end."""
         source = random.Random(4)
         seen = set()
         for rate in 60 // len(rates) * list(rates.values()):
             book, run = book_kind(rate), run_kind(rate)
             for _ in range(14):
                 name = source.choice(("absorb",) * 5 + ("finalize", "squeeze", "squeeze", "squeeze"))
-                size = source.choice((0, 1, 2, source.randrange(9000), max(0, -run.absorbed % 8192 + source.choice((-1, 0, 1)))))
+                size = source.choice((0, 1, 2, source.randrange(9000), max(0, -run.absorbed % 8192 + source.choice(ends))))
                 custom = source.choice((0, 1, 255, 256, source.randrange(9000), max(0, -run.absorbed % 8192 - source.randrange(4)), 65_536))
                 arguments = {"absorb": reference.ptn(size), "squeeze": size % 500, "finalize": reference.ptn(custom)}
                 seen.add((name, self.both(book, run, name, arguments[name])))
@@ -188,7 +189,7 @@ class Reached(unittest.TestCase):
         self.assertEqual(len(reached), 21 + 21 * 18)
 
     def test_by_every_kt_call(self):
-        """A day reaches what a KT run does, in more calls where an event is too long."""
+        """A day reaches what a KT run does: an empty event adds one byte."""
         for kind in (SmallKtRun, SmallDayRun):
             reached = self.reached_from_fresh(kind, (b"", bytes(5)))
             fields = ((p, a, s, node, leaf) for p in range(3) for a in range(23) for s in range(11) for node in range(6) for leaf in range(6))
@@ -202,20 +203,47 @@ class Day(unittest.TestCase):
         for day in (transcript.book_of(4), transcript.run_of(4)):
             self.assertEqual([day.absorb(reference.ptn(size)) for size in (65_536, 65_535, 65_537, 262_144, 0, 1)], [8, 0, 8, 8, 0, 0])
             self.assertEqual(day.finalize(b"station"), 0)
-            joined = reference.ptn(65_535) + b"\x00"
-            self.assertEqual(day.squeeze(40), (0, reference.kt128(joined, b"station", 40)))
+            message = reference.ptn(65_535) + b"\xff\xff\x02" + b"\x00" + b"\x00\x01\x01"
+            self.assertEqual(day.squeeze(40), (0, reference.kt128(message, b"station", 40)))
 
     def test_order_of_the_refusals(self):
-        """5 (which only a run has), 3, 8, 2."""
+        """5 (which only a run has), 3, 8, 2. Three events of 8,303 bytes with their lengths leave 1,091: one of 1,088 and its length."""
         for kind in (ShortDayTranscript, ShortDayRun):
             day = kind(168)
-            sizes = (8300, 8300, 8300, 8301, 1100, 1101, 1100, 1, 8301, 0)
-            self.assertEqual([day.absorb(bytes(size)) for size in sizes], [0, 0, 0, 8, 0, 2, 2, 2, 8, 0])
+            sizes = (8300, 8300, 8300, 8301, 1092, 1091, 1090, 1089, 1088, 1, 8301, 0)
+            self.assertEqual([day.absorb(bytes(size)) for size in sizes], [0, 0, 0, 8, 2, 2, 2, 2, 0, 2, 8, 2])
             self.assertEqual(day.finalize(bytes(65_536)), 4)
             self.assertEqual(day.finalize(b""), 0)
-            self.assertEqual([day.absorb(bytes(size)) for size in (0, 8301, 26_001)], [3, 3, 3])
+            self.assertEqual([day.absorb(bytes(size)) for size in (0, 1, 8301, 26_001)], [3, 3, 3, 3])
         day.phase = 2
-        self.assertEqual([day.absorb(bytes(size)) for size in (0, 8301, 26_001)], [5, 5, 5])
+        self.assertEqual([day.absorb(bytes(size)) for size in (0, 1, 8301, 26_001)], [5, 5, 5, 5])
+
+    def test_the_last_bytes(self):
+        """What is left of 26,000 bytes decides which events are taken: an empty one needs one byte, one of a byte three."""
+        for left, sizes, statuses in (
+            (1, (1, 0, 0), (2, 0, 2)),
+            (2, (2, 1, 0, 1, 0, 0), (2, 2, 0, 2, 0, 2)),
+            (3, (2, 1, 1, 0), (2, 0, 2, 2)),
+            (257, (257, 256, 255, 0), (2, 2, 0, 2)),
+            (258, (257, 256, 255, 1, 0, 0), (2, 2, 0, 2, 0, 2)),
+            (259, (257, 256, 0), (2, 0, 2)),
+        ):
+            for kind in (ShortDayTranscript, ShortDayRun):
+                day = kind(168)
+                self.assertEqual([day.absorb(bytes(size)) for size in (8297, 8297, 8297, 1100 - left - 3)], [0] * 4)
+                self.assertEqual([day.absorb(bytes(size)) for size in sizes], list(statuses), left)
+
+    def test_refused_whole(self):
+        """A refused event leaves the run as it was, one that would have fitted without its length too."""
+        day = ShortDayRun(168)
+        day.absorb(reference.ptn(8000))
+        for _ in range(2):
+            day.absorb(reference.ptn(8200))
+        for size, status in ((8301, 8), (1592, 2), (1591, 2), (1590, 2), (1589, 2)):
+            before = [day.phase, day.absorbed, day.squeezed, *(dict(vars(sponge)) for sponge in day.sponges())]
+            self.assertEqual(day.absorb(reference.ptn(size)), status)
+            self.assertEqual([day.phase, day.absorbed, day.squeezed, *(vars(sponge) for sponge in day.sponges())], before)
+        self.assertEqual((day.absorb(reference.ptn(1588)), day.absorbed), (0, 26_000))
 
     def test_name(self):
         """The station's name is the customization string."""
@@ -223,7 +251,18 @@ class Day(unittest.TestCase):
         for event in (b"one\n", b"", b"two\n"):
             day.absorb(event)
         self.assertEqual([day.finalize(bytes(65_536)), day.finalize(b"station"), day.finalize(b"station")], [4, 0, 3])
-        self.assertEqual(day.squeeze(32), (0, reference.kt128(b"one\ntwo\n", b"station", 32)))
+        self.assertEqual(day.squeeze(32), (0, reference.kt128(b"one\n\x04\x01\x00two\n\x04\x01", b"station", 32)))
+
+    def test_same_as_a_kt_run(self):
+        """A day's fields are those of a KT128 run that took the day's message in one piece."""
+        for sizes in ((), (0,), (0, 0), (8189,), (8190, 0), (40, 0, 17), (255, 256, 8000, 9000)):
+            events = [reference.ptn(size) for size in sizes]
+            day, run = transcript.run_of(4), transcript.run_of(2)
+            for event in events:
+                day.absorb(event)
+            run.absorb(reference.day_message(events))
+            self.assertEqual(day.absorbed, run.absorbed)
+            self.assertEqual([vars(sponge) for sponge in day.sponges()], [vars(sponge) for sponge in run.sponges()])
 
 
 class OneGo(unittest.TestCase):

@@ -2,7 +2,7 @@
 
 `Transcript`, `KtTranscript` and `DayTranscript` are the books: they get the arguments of each call alone, and say its status and its
 bytes. `Run`, `KtRun` and `DayRun` have the fields of a run, so they also answer for one whose fields were overwritten, of which the book
-says nothing. The calls in one go follow them. Written from document 01 and the draft, never from the Rattle sources.
+says nothing. The calls in one go follow them. Written from documents 01 and 02 and the draft, never from the Rattle sources.
 """
 import reference
 
@@ -28,6 +28,11 @@ def domain_status(domain):
 def custom_status(custom):
     """Answer 4: the customization string is longer than 65,535 bytes."""
     return CUSTOM_TOO_LONG if len(custom) > 65_535 else DONE
+
+
+def with_length(event):
+    """What an event adds to a day (request Q-1): its bytes, and length_encode of their number."""
+    return event + reference.length_encode(len(event))
 
 
 class Limits:
@@ -96,12 +101,12 @@ class KtTranscript(Transcript):
 
 
 class DayTranscript(KtTranscript):
-    """The book of a day: events in place of pieces, and the station's name as customization string."""
+    """The book of a day: events, each with its length, in place of pieces, and the station's name as customization string."""
 
     def absorb(self, event):
         if self.phase == ABSORBING and len(event) > self.EVENT_LIMIT:
             return EVENT_TOO_LONG
-        return super().absorb(event)
+        return super().absorb(with_length(event))
 
 
 def position_after(rate, total):
@@ -282,13 +287,13 @@ class KtRun(Run):
 
 
 class DayRun(KtRun):
-    """The fields of a day are those of a KT run."""
+    """The fields of a day are those of a KT run. An event is taken with its length or not at all."""
 
     def absorb(self, event):
         status = self.refusal(ABSORBING)
         if status == DONE and len(event) > self.EVENT_LIMIT:
             status = EVENT_TOO_LONG
-        return status or super().absorb(event)
+        return status or super().absorb(with_length(event))
 
 
 KINDS = dict.fromkeys(TURBOSHAKE, (Transcript, Run)) | dict.fromkeys(KT, (KtTranscript, KtRun)) | dict.fromkeys(DAY, (DayTranscript, DayRun))
