@@ -9,11 +9,6 @@ use Rattle.kangarootwelve.specs.Published.{lengthEncode, merged}
 use Rattle.kangarootwelve.proofs.Merged.{merged-is, merged-some, merged-injective}
 use Rattle.journal.specs.Published.{framed, message}
 
--- what the crates above know of an event in a message
-pub framed-is : (e : List ℕ) → framed e ≡ e ++ lengthEncode (length e)
-unfolding framed
-framed-is e = refl
-
 pub message-append : (es fs : List (List ℕ)) → message (es ++ fs) ≡ message es ++ message fs
 message-append [] fs = refl
 message-append (e ∷ es) fs = ap (λ (l : List ℕ). framed e ++ l) (message-append es fs) ∙ sym (append-assoc (framed e) (message es) (message fs))
@@ -23,7 +18,13 @@ pub message-next : (es : List (List ℕ)) (e : List ℕ) → message (es ++ e �
 message-next es e = message-append es (e ∷ []) ∙ ap (λ (l : List ℕ). message es ++ l) (append-nil (framed e))
 
 pub message-merged : (es : List (List ℕ)) (e : List ℕ) → message (es ++ e ∷ []) ≡ merged (message es) e
-message-merged es e = message-next es e ∙ ap (λ (l : List ℕ). message es ++ l) (framed-is e) ∙ sym (merged-is (message es) e)
+unfolding framed
+message-merged es e = message-next es e ∙ sym (merged-is (message es) e)
+
+-- what the crates above know of an event in a message
+pub framed-is : (e : List ℕ) → framed e ≡ e ++ lengthEncode (length e)
+unfolding framed
+framed-is e = refl
 
 -- the message of the events es, the last one first
 fromLast : List (List ℕ) → List ℕ

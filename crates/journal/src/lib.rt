@@ -73,7 +73,9 @@ fn absorb_both(given: Run, first: &[u8], second: &[u8]) -> Answer
     if one.status != status::DONE {
         return refused(given, one.status);
     }
-    let both = one.hasher.absorb(second);
+    let hasher = one.hasher;
+    let between = hasher.run;
+    let both = Kt128 { run: between }.absorb(second);
     if both.status != status::DONE {
         return refused(given, both.status);
     }

@@ -31,23 +31,23 @@ refused-requires-2 c κs = search needs
 
 returns-2 : tie.Need-returns-2
 returns-2 c =
-    let a = c .before .before .before .before .before .before .before .before .before .args in
-    let one = c .before .before .before .before .before .before .absorb .ensures in
+    let a = c .before .before .before .before .before .before .before .before .before .before .before .args in
+    let one = c .before .before .before .before .before .before .before .before .absorb .ensures in
     let both = ap (λ (x : Answer128). x .status) (c .before .before .before .absorb2 .ensures ∙ ap (λ (x : Answer128). answer128 (x .hasher) (absorb (a .second .now))) one) in
     c .refused2 .ensures
     ∙ ap (λ (n : ℕ). record { journal = record { run = a .given }; status = n }) both
-    ∙ second-refused (a .given) (a .first .now) (a .second .now) (sym (ap (λ (x : Answer128). x .status) one) ∙ c .before .before .before .before .if1 .left) (λ z. c .before .if2 .taken (both ∙ z))
+    ∙ second-refused (a .given) (a .first .now) (a .second .now) (sym (ap (λ (x : Answer128). x .status) one) ∙ c .before .before .before .before .before .before .if1 .left) (λ z. c .before .if2 .taken (both ∙ z))
 
 answer-of-requires : tie.Need-answer-of-requires
 answer-of-requires c κs = search needs
 
 returns-3 : tie.Need-returns-3
 returns-3 c =
-    let a = c .before .before .before .before .before .before .before .before .before .args in
-    let one = c .before .before .before .before .before .before .absorb .ensures in
+    let a = c .before .before .before .before .before .before .before .before .before .before .before .args in
+    let one = c .before .before .before .before .before .before .before .before .absorb .ensures in
     let both = c .before .before .before .absorb2 .ensures ∙ ap (λ (x : Answer128). answer128 (x .hasher) (absorb (a .second .now))) one in
     c .answer-of .ensures ∙ ap dayAnswer both
-    ∙ both-done (a .given) (a .first .now) (a .second .now) (sym (ap (λ (x : Answer128). x .status) one) ∙ c .before .before .before .before .if1 .left)
+    ∙ both-done (a .given) (a .first .now) (a .second .now) (sym (ap (λ (x : Answer128). x .status) one) ∙ c .before .before .before .before .before .before .if1 .left)
     (sym (ap (λ (x : Answer128). x .status) both) ∙ c .before .if2 .left)
 
 pub absorb-both-spec : {M : Type 1} → statement M

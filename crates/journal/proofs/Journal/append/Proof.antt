@@ -38,10 +38,16 @@ length-encode-requires : tie.Need-length-encode-requires
 length-encode-requires c κs = search needs
 
 sub-absorb-both : tie.Need-sub-absorb-both
-sub-absorb-both c = let n = c .before .length-encode in encoding-start _ (n .result) (n .ensures)
+sub-absorb-both c =
+    let n = c .before .length-encode in
+    let start : n .result .start ≤ 9 = encoding-start _ (n .result) (n .ensures) in
+    search needs
 
 part-absorb-both-start : tie.Need-part-absorb-both-start
-part-absorb-both-start c = let n = c .before .before .length-encode in encoding-start _ (n .result) (n .ensures)
+part-absorb-both-start c =
+    let n = c .before .before .length-encode in
+    let start : n .result .start ≤ 9 = encoding-start _ (n .result) (n .ensures) in
+    search needs
 
 part-absorb-both-end : tie.Need-part-absorb-both-end
 part-absorb-both-end c =
