@@ -46,9 +46,9 @@ returns c =
     let encoding : take (9 - n .result .start) (drop (n .result .start) (n .result .bytes)) ≡ lengthEncode (length (a .event .now)) = encoding-part (length (a .event .now)) (n .result) (n .ensures) (omega arith) in (
       search needs,
       second .ensures .1
-      ∙ ap₂ (λ (l m : List ℕ). l ++ m) (first .ensures .1) encoding
-      ∙ append-assoc before (a .event .now) (lengthEncode (length (a .event .now)))
-      ∙ ap (λ (l : List ℕ). before ++ l) (sym (framed-is (a .event .now))),
+          ∙ ap₂ (λ (l m : List ℕ). l ++ m) (first .ensures .1) encoding
+          ∙ append-assoc before (a .event .now) (lengthEncode (length (a .event .now)))
+          ∙ ap (λ (l : List ℕ). before ++ l) (sym (framed-is (a .event .now))),
     )
 
 pub put-event-spec : {M : Type 1} → statement M
