@@ -157,9 +157,14 @@ def hopmac256(key, message, custom, length):
     return hopmac(kt256, 64, key, message, custom, length)
 
 
+def with_length(event):
+    """What an event adds to a day (request Q-1): its bytes, and length_encode of their number. An empty event adds 00."""
+    return bytes(event) + length_encode(len(event))
+
+
 def day_message(events):
-    """Request Q-1: each event followed by length_encode of its length, in order. An empty event adds 00."""
-    return b"".join(bytes(event) + length_encode(len(event)) for event in events)
+    """Request Q-1: each event followed by length_encode of its length, in order."""
+    return b"".join(map(with_length, events))
 
 
 def ptn(n):

@@ -305,7 +305,7 @@ class Days(Held):
                 for function in (JOURNAL, 2):
                     calls.fresh(function)
                     for event in events:
-                        calls.absorb(event if function == JOURNAL else reference.day_message([event]))
+                        calls.absorb(event if function == JOURNAL else reference.with_length(event))
                     calls.dump()
                     calls.finalize(name)
                     calls.squeeze(200)

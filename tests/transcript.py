@@ -30,11 +30,6 @@ def custom_status(custom):
     return CUSTOM_TOO_LONG if len(custom) > 65_535 else DONE
 
 
-def with_length(event):
-    """What an event adds to a day (request Q-1): its bytes, and length_encode of their number."""
-    return event + reference.length_encode(len(event))
-
-
 class Limits:
     """The most bytes that a run takes and gives, and that an event has. A test may lower them to reach them."""
 
@@ -106,7 +101,7 @@ class DayTranscript(KtTranscript):
     def absorb(self, event):
         if self.phase == ABSORBING and len(event) > self.EVENT_LIMIT:
             return EVENT_TOO_LONG
-        return super().absorb(with_length(event))
+        return super().absorb(reference.with_length(event))
 
 
 def position_after(rate, total):
@@ -293,7 +288,7 @@ class DayRun(KtRun):
         status = self.refusal(ABSORBING)
         if status == DONE and len(event) > self.EVENT_LIMIT:
             status = EVENT_TOO_LONG
-        return status or super().absorb(with_length(event))
+        return status or super().absorb(reference.with_length(event))
 
 
 KINDS = dict.fromkeys(TURBOSHAKE, (Transcript, Run)) | dict.fromkeys(KT, (KtTranscript, KtRun)) | dict.fromkeys(DAY, (DayTranscript, DayRun))
