@@ -4,7 +4,7 @@ use mathlib.Core.Path.{_≡_, sym, ap, _∙_}
 use mathlib.Core.List.{List}
 use Prim.Native.Nat.{ℕ, _≤_, _<_}
 use lib.ListN.{length}
-use Rattle.sponge.specs.Transcript.{Phase.squeezing, Transcript}
+use Rattle.sponge.specs.Transcript.{Phase.squeezing}
 use Rattle.sponge.specs.Streaming.{joined}
 use Rattle.sponge.proofs.Streaming.{outputSo}
 use Rattle.turboshake.specs.Transcript.{limit}

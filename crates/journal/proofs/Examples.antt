@@ -1,8 +1,7 @@
 -- The days of request Q-1, as one statement: `AB` then `C`, `A` then `BC`, and an empty event.
 -- Assumes nothing.
-use mathlib.Core.Path.{_≡_, refl}
-use mathlib.Core.List.{List, [], _∷_}
-use Prim.Native.Nat.{ℕ}
+use mathlib.Core.Path.{_≡_}
+use mathlib.Core.List.{[], _∷_}
 use native.Mathlib.Omega.{arith}
 use Rattle.kangarootwelve.specs.Published.{lengthEncode}
 use Rattle.kangarootwelve.proofs.Encoding.{encode-zero, encode-byte}

@@ -16,7 +16,7 @@ use Rattle.kangarootwelve.specs.Model.{Nodes, machine}
 use Rattle.kangarootwelve.proofs.Answers.{limits-are, output-published}
 use Rattle.journal.specs.Published.{framed, message, digest}
 use Rattle.journal.specs.Transcript.{ownStatus, framedCall, rulesAt, transcribe}
-use Rattle.journal.specs.Model.{dayOf, freshDay, performed, answerOf, replyOf, outputOf}
+use Rattle.journal.specs.Model.{dayOf, freshDay, answerOf, replyOf, outputOf}
 use Rattle.journal.specs.declared.Journal.{Journal}
 use Rattle.journal.proofs.Messages.{message-next}
 use Rattle.journal.proofs.Streaming.{laws, dayTold, one}

@@ -2,21 +2,20 @@
 -- positions: both directions. Every total is reached: an empty event adds one byte.
 -- Assumes nothing.
 use mathlib.Core.Path.{_≡_, refl, sym, ap, _∙_, subst}
-use mathlib.Core.List.{List, [], _∷_}
+use mathlib.Core.List.{List, []}
 use mathlib.Core.Bool.{Bool, true, false, cond}
-use Prim.Native.Nat.{ℕ, zero, suc, _+_, _≤_, zero-le}
+use Prim.Native.Nat.{ℕ, zero, suc, zero-le}
 use native.Mathlib.Omega.{arith}
-use lib.ListN.{length, replicate, length-append}
-use lib.Dec.{T, eqb, leb}
+use lib.ListN.{length, replicate}
+use lib.Dec.{T, leb}
 use Rattle.sponge.specs.Status.{unreachable}
 use Rattle.sponge.specs.Transcript.{Call, Call.absorb, Call.finalize, Call.squeeze, Phase, Phase.absorbing, Phase.squeezing, phaseNumber, Transcript}
 use Rattle.sponge.specs.Runs as runs
 use Rattle.sponge.specs.Runs.{runOf}
 use Rattle.sponge.proofs.Reachable as generic
-use Rattle.sponge.proofs.Reachable.{Taken, Shape}
+use Rattle.sponge.proofs.Reachable.{Taken}
 use Rattle.sponge.proofs.Streaming.{Fits}
 use Rattle.kangarootwelve.specs.Transcript as kt
-use Rattle.kangarootwelve.specs.Published.{lengthEncode}
 use Rattle.kangarootwelve.specs.Model.{Nodes, machine, seen}
 use Rattle.kangarootwelve.proofs.Encoding.{encode-zero}
 use Rattle.kangarootwelve.proofs.Laws.{positions, due, shape, shaped, first-is, second-is}
@@ -24,7 +23,7 @@ use Rattle.kangarootwelve.proofs.Streaming as kt-streaming
 use Rattle.journal.specs.Published.{framed, message}
 use Rattle.journal.specs.Transcript.{eventLimit, eventStatus, framedCall, rulesAt}
 use Rattle.journal.specs.Model.{dayOf, performed, answerOf}
-use Rattle.journal.specs.Streaming.{told, ran}
+use Rattle.journal.specs.Streaming.{ran}
 use Rattle.journal.specs.declared.Journal.{Journal}
 use Rattle.journal.proofs.Streaming.{laws, dayTold, streaming, told-fits}
 use Rattle.journal.proofs.Appended.{EachFits, appends, told-appends}

@@ -6,7 +6,6 @@ use mathlib.Core.List.{List, [], _∷_, _++_, append-nil, append-assoc}
 use Prim.Native.Nat.{ℕ, zero, suc, _<_}
 use native.Mathlib.Omega.{arith}
 use lib.ListN.{length}
-use Rattle.sponge.specs.Transcript as sponge
 use Rattle.sponge.specs.Transcript.{Call, Call.absorb, Call.finalize, Call.squeeze, Phase, Phase.absorbing, Phase.squeezing, phaseNumber, Transcript, freshTranscript, Reply, statusOf}
 use Rattle.sponge.specs.Runs as runs
 use Rattle.sponge.specs.Runs.{runOf}

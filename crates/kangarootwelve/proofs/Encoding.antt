@@ -1,4 +1,5 @@
--- What the loop of length_encode asks: the bytes come off a number at its low end, and go into the array from its end.
+-- What the loop of length_encode asks: the bytes come off a number at its low end, and go into the array from its end. And what a caller
+-- knows of an encoding.
 -- Assumes nothing.
 use mathlib.Core.Path.{_≡_, refl, sym, ap, ap₂, _∙_, subst}
 use mathlib.Core.List.{List, [], _∷_, _++_, append-assoc}

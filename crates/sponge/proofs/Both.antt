@@ -1,7 +1,7 @@
 -- Two pieces absorbed in a row, both or neither: what the joined piece gets, on every run, reached or not, of a function that takes every
 -- piece by itself.
 -- Assumes nothing.
-use mathlib.Core.Path.{_≡_, refl, sym, ap, _∙_}
+use mathlib.Core.Path.{_≡_, refl, sym}
 use mathlib.Core.List.{List, [], _++_}
 use mathlib.Core.Bool.{Bool, true, false}
 use Prim.Native.Nat.{ℕ, _+_, _≤_, _<_}

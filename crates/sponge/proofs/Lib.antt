@@ -1,5 +1,5 @@
 -- Laws of the sponge. Crates above use `Published` (the fold computes the published sponge), `Position`, `Valid` (the calls' two cases),
--- `Streaming`, `Joining`, `Reachable` and `Pieces`; the rest serves the functions' own proofs.
+-- `Following` and `Streaming` (lists of calls), `Joining`, `Both`, `Reachable` and `Pieces`; the rest serves the functions' own proofs.
 pub mod Xor
 pub mod XorByte
 pub mod Waiting

@@ -10,7 +10,7 @@ use lib.ListN.{length, drop, length-append}
 use lib.Seq.{drop-at}
 use borrow.Author.Tests.{leb-true}
 use Rattle.sponge.specs.Transcript.{Call, Call.absorb, Call.finalize, Call.squeeze, Phase, Phase.absorbing, Phase.squeezing, phaseNumber, Transcript, freshTranscript, Rules, statusOf, outputOf, written, given, transcribe}
-use Rattle.sponge.specs.Runs.{Run, Machine, worked, bytesOut, perform, stateOf, runOf}
+use Rattle.sponge.specs.Runs.{Machine, worked, bytesOut, perform, stateOf, runOf}
 use Rattle.sponge.specs.Streaming.{history, Streaming}
 use Rattle.sponge.proofs.FirstStatus.{first-zero}
 use Rattle.sponge.proofs.Following.{One, Same, follows}

@@ -1,7 +1,6 @@
-use mathlib.Core.Path.{_≡_, sym, ap, _∙_}
+use mathlib.Core.Path.{sym, ap, _∙_}
 use Prim.Native.Nat.{ℕ}
 use Rattle.sponge.specs.Transcript.{Call.absorb}
-use Rattle.kangarootwelve.specs.Model as kt
 use Rattle.kangarootwelve.specs.Model.{answer128}
 use Rattle.kangarootwelve.specs.declared.Answer128.{Answer128}
 use Rattle.journal.proofs.Cases.{dayAnswer, first-refused, second-refused, both-done}
