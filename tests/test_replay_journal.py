@@ -236,9 +236,14 @@ class Days(Held):
         return calls.expected[-1][2]
 
     def test_same_bytes_joined(self):
-        """The days of request Q-1, `AB`, `C` and `A`, `BC`, and one of `ABC`: each digest is that of its own message."""
+        """The days of request Q-1, `AB`, `C` and `A`, `BC`, one with an empty event, and one of `ABC`: each digest is that of its own message."""
         calls = Calls()
-        messages = {(b"AB", b"C"): "41 42 02 01 43 01 01", (b"A", b"BC"): "41 01 01 42 43 02 01", (b"ABC",): "41 42 43 03 01"}
+        messages = {
+            (b"AB", b"C"): "41 42 02 01 43 01 01",
+            (b"A", b"BC"): "41 01 01 42 43 02 01",
+            (b"AB", b"", b"C"): "41 42 02 01 00 43 01 01",
+            (b"ABC",): "41 42 43 03 01",
+        }
         for name in (b"", STATION):
             lines = set()
             for events, message in messages.items():
@@ -246,7 +251,7 @@ class Days(Held):
                 calls.kt_one_go(2, bytes.fromhex(message), name, 32)
                 self.assertEqual(line, calls.expected[-1][2], "the test itself is wrong")
                 lines.add(line)
-            self.assertEqual(len(lines), 3)
+            self.assertEqual(len(lines), len(messages))
         self.hold(calls)
 
     def test_empty_events(self):

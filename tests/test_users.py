@@ -1,4 +1,4 @@
-"""The days that docs/USERS.md writes out have the bytes and the digests that it says."""
+"""The days that docs/USERS.md writes out have the bytes and the digests that it says, and its length encodings are right."""
 import re
 import unittest
 from pathlib import Path
@@ -28,6 +28,17 @@ def events_of(cell):
 
 
 class Days(unittest.TestCase):
+    def test_name(self):
+        """The page gives the name, and its length, that the rows go with."""
+        self.assertIn(f"`{STATION.decode()}` ({len(STATION)} bytes)", PAGE.read_text())
+
+    def test_lengths(self):
+        """The encodings that the page gives as examples, `N bytes: XX ..`."""
+        examples = re.findall(r"\| ([\d,]+) bytes: `([0-9A-F ]+)` \|", PAGE.read_text())
+        self.assertGreaterEqual(len(examples), 2)
+        for size, encoding in examples:
+            self.assertEqual(bytes.fromhex(encoding), reference.length_encode(int(size.replace(",", ""))))
+
     def test_rows(self):
         """Each row: what is hashed is the day's message, the digest KT128 of it with the station's name, 32 bytes."""
         found = list(rows(PAGE.read_text()))

@@ -92,7 +92,8 @@ fn put_event(day: &mut [u8], at: usize, event: &[u8]) -> usize
     put(day, end, &bytes[start..9])
 }
 
-// The clerk's part: the day's message put together in `day`, and one call. Answers its status; where that is 0, `out` holds the same.
+// The clerk's part: the day's message put together in `day`, and one call. Answers its status; where that is 0, `out` holds the digest of
+// the events under the name.
 fn clerk(
     on: &[u8],
     level: &[u8],

@@ -42,7 +42,7 @@ pub fresh-day : _≡_ {A = Journal} (record { run = kt.freshOf 168 32 }) freshDa
 unfolding freshDay
 fresh-day = ap (λ (r : Run). record { run = r }) (fresh-is 168 32)
 
--- an answer of KT128 as a day's
+-- the code's struct of an answer of KT128 as a day's
 abbrev pub dayAnswer : Answer128 → Answer
 dayAnswer a = record { journal = record { run = a .hasher .run }; status = a .status }
 

@@ -19,7 +19,7 @@ dayOf r = record { run = held r }
 unfoldable pub freshDay : Journal
 freshDay = dayOf (freshRun (kangarootwelve.rules 168 32) (machine 168 32))
 
--- a call on a day is one on the run below: of an event, an absorb of it with its length encoding, or a refusal
+-- a call on a day is KT128's on the run below; of an event, one absorb of the event with its length encoding
 unfoldable pub performed : Journal → Call (List ℕ) → Reply (runs.Run Nodes)
 performed j c = perform (rulesAt c) (machine 168 32) (seen (j .run)) (framedCall c)
 

@@ -20,20 +20,20 @@ eventLimit = 65535
 unfoldable pub eventStatus : ℕ → ℕ
 eventStatus n = cond (leb n eventLimit) done eventTooLong
 
--- the status that a call has by itself: an event's
+-- the status that a call has by itself: 8 for an event above its limit, 0 for any other call
 abbrev pub ownStatus : Call (List ℕ) → ℕ
 ownStatus (absorb e) = eventStatus (length e)
 ownStatus (finalize name) = done
 ownStatus (squeeze k) = done
 
--- a call on a day as one on the run below
+-- a call on a day as one on the run below: of a day `absorb e` appends the event e, of the run it absorbs bytes
 abbrev pub framedCall : Call (List ℕ) → Call (List ℕ)
 framedCall (absorb e) = absorb (framed e)
 framedCall (finalize name) = finalize name
 framedCall (squeeze k) = squeeze k
 
--- the rules at a call: those of KT128 (rate 168, chaining values of 32 bytes), where a piece has the status of the event that it comes
--- from; `statusOf` has it after 3 and before 2
+-- the rules at a call: those of KT128 (rate 168, chaining values of 32 bytes), but a piece's own status, which `statusOf` asks after 3 and
+-- before 2, is that of the event, whatever the length n of the piece: the piece is longer than the event
 unfoldable pub rulesAt : Call (List ℕ) → Rules (List ℕ)
 rulesAt c = withPieces (kangarootwelve.rules 168 32) (λ n. ownStatus c)
 

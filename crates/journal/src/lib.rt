@@ -16,7 +16,7 @@ use sponge::status;
 // The most bytes of an event.
 pub const EVENT_LIMIT: u64 = 65535;
 
-// Document 01's day. Its run is KT128's: two states, the phase and the two totals, however long the day.
+// A day: document 01, with the message of request Q-1. Its run is KT128's: two states, the phase and the two totals, however long the day.
 pub struct Journal {
     pub run: Run,
 }
@@ -39,7 +39,7 @@ fn answer_of(answer: Answer128) -> Answer
     }
 }
 
-// The status of a long event on a run that answers `tried` to an empty one: the run's own refusals come first.
+// The status of a long event on a run that answers `tried` to an empty piece: the run's own refusals come first.
 fn long_status(tried: u8) -> u8
     ensures { λ r. ⌜ r ≡ firstOf tried eventTooLong ⌝ }
 {

@@ -1,5 +1,6 @@
--- Laws of KT and HopMAC. Crates above use `Streaming` (the list theorem and what follows from it), `Answers` and `Pieces` (what a call
--- does, and calls in a row), `Encoding`, `Merged` and `Tags` (what the tag check's answer says); the rest serves the functions' own proofs.
+-- Laws of KT and HopMAC. Crates above use `Laws` (what KT's machine owes), `Streaming` (the list theorem and what follows from it), `Answers`
+-- and `Pieces` (what a call does, and calls in a row), `Encoding`, `Merged` and `Tags` (what the tag check's answer says); the rest serves
+-- the functions' own proofs.
 pub mod Published
 pub mod Laws
 pub mod Streaming

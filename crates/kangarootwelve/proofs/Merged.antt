@@ -32,11 +32,12 @@ head : List ℕ → ℕ
 head [] = 0
 head (x ∷ s) = x
 
--- C with its length follows M, and is never nothing
+-- C with its length follows M
 pub merged-is : (m c : List ℕ) → merged m c ≡ m ++ (c ++ lengthEncode (length c))
 unfolding merged
 merged-is m c = append-assoc m c (lengthEncode (length c))
 
+-- a merged string is never empty
 pub merged-some : (m c : List ℕ) → merged m c ≡ [] → ⊥
 unfolding merged lengthEncode
 merged-some m c e =

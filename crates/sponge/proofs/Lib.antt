@@ -1,5 +1,6 @@
--- Laws of the sponge. Crates above use `Published` (the fold computes the published sponge), `Position`, `Valid` (the calls' two cases),
--- `Following` and `Streaming` (lists of calls), `Joining`, `Both`, `Reachable` and `Pieces`; the rest serves the functions' own proofs.
+-- Laws of the sponge. Those marked `pub` serve the crates above: `Published` (the fold computes the published sponge), `Position`, `Valid`
+-- (the calls' two cases), `Following` to `Corollaries` (lists of calls, and what follows), `Answers`, `Pieces` and `PieceStatus` (one call,
+-- and calls in a row). The rest serves the functions' own proofs.
 pub mod Xor
 pub mod XorByte
 pub mod Waiting

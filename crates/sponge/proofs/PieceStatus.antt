@@ -1,5 +1,5 @@
--- A function whose pieces get a status of their own, over the machine of one whose pieces are all taken: what the one owes holds of the
--- other, and what the other's calls do is told by the one's.
+-- A function with another status of pieces (`withPieces`), over the same machine: the laws of the first function hold of the second, and a
+-- call on the second is told by one on the first.
 -- Assumes nothing.
 use mathlib.Core.Path.{_≡_, refl}
 use mathlib.Core.List.{List, []}

@@ -1,4 +1,4 @@
--- `day::clerk` meets its contract: each event stands after those before it, and what is hashed are all of them.
+-- `day::clerk` meets its contract: each event, with its length encoding, stands after those before it, and what is hashed is the day's message.
 -- Assumes nothing.
 use mathlib.Core.Path.{refl, sym}
 use mathlib.Core.List.{[], _∷_}

@@ -2,7 +2,7 @@
 -- Assumes nothing.
 use mathlib.Core.Path.{_≡_, sym, ap, ap₂, _∙_}
 use mathlib.Core.List.{List, _++_, append-assoc}
-use Prim.Native.Nat.{ℕ, _-_}
+use Prim.Native.Nat.{ℕ, _-_, _≤_}
 use native.Mathlib.Nat.{le-of-eq}
 use native.Mathlib.Omega.{arith}
 use lib.ListN.{length, take, drop}
@@ -20,10 +20,16 @@ length-encode-requires : tie.Need-length-encode-requires
 length-encode-requires c κs = search needs
 
 sub-put : tie.Need-sub-put
-sub-put c = let n = c .before .before .length-encode in encoding-start _ (n .result) (n .ensures)
+sub-put c =
+    let n = c .before .before .length-encode in
+    let start : n .result .start ≤ 9 = encoding-start _ (n .result) (n .ensures) in
+    search needs
 
 part-put-start : tie.Need-part-put-start
-part-put-start c = let n = c .before .before .before .length-encode in encoding-start _ (n .result) (n .ensures)
+part-put-start c =
+    let n = c .before .before .before .length-encode in
+    let start : n .result .start ≤ 9 = encoding-start _ (n .result) (n .ensures) in
+    search needs
 
 part-put-end : tie.Need-part-put-end
 part-put-end c =
