@@ -6,7 +6,7 @@ use mathlib.Core.Bool.{true, false}
 use Prim.Native.Nat.{ℕ, suc, _+_, _≤_, _<_}
 use borrow.Author.Tests.{eq-eqb, ne-eqb, le-leb, lt-leb}
 use lib.ListN.{length}
-use Rattle.sponge.specs.Transcript.{Call, Call.absorb, Call.finalize, Call.squeeze, Rules}
+use Rattle.sponge.specs.Transcript.{Call, Call.absorb, Call.customize, Call.finalize, Call.finish, Call.squeeze, Customization.upTo, Rules}
 use Rattle.sponge.specs.Runs.{Run, Machine, runStatus}
 
 module _ {S A : Type 0} (U : Rules A) (M : Machine S A) (r : Run S) where
@@ -40,3 +40,20 @@ module _ {S A : Type 0} (U : Rules A) (M : Machine S A) (r : Run S) where
 
     pub squeeze-0 : (k : ℕ) → r .phase ≡ 1 → r .squeezed + k ≤ U .outputLimit → runStatus U M r (squeeze k) ≡ 0
     squeeze-0 k f g = rw (e, eq-eqb (r .phase) 1 f, le-leb (r .squeezed + k) (U .outputLimit) g)
+
+    pub customize-3 : (p : List ℕ) → r .phase ≡ 1 → runStatus U M r (customize p) ≡ 3
+    customize-3 p f = rw (e, eq-eqb (r .phase) 1 f)
+
+    pub finish-3 : (r .phase ≡ 2 → ⊥) → runStatus U M r finish ≡ 3
+    finish-3 f = rw (e, ne-eqb (r .phase) 2 f)
+
+    -- of a function with a customization phase
+    module _ (most : ℕ) (of : List ℕ → A) (named : U .customization ≡ upTo most of) where
+      pub customize-4 : (p : List ℕ) → (r .phase ≡ 1 → ⊥) → most < M .customized (r .state) + length p → runStatus U M r (customize p) ≡ 4
+      customize-4 p f g = rw (e, ne-eqb (r .phase) 1 f, named, lt-leb (M .customized (r .state) + length p) most g)
+
+      pub customize-0 : (p : List ℕ) → (r .phase ≡ 1 → ⊥) → M .customized (r .state) + length p ≤ most → runStatus U M r (customize p) ≡ 0
+      customize-0 p f g = rw (e, ne-eqb (r .phase) 1 f, named, le-leb (M .customized (r .state) + length p) most g)
+
+      pub finish-0 : r .phase ≡ 2 → runStatus U M r finish ≡ 0
+      finish-0 f = rw (e, eq-eqb (r .phase) 2 f, named)

@@ -5,14 +5,16 @@ use mathlib.Core.Path.{_≡_, refl, sym, ap, _∙_, subst}
 use mathlib.Core.List.{List, [], _∷_, _++_}
 use mathlib.Core.Bool.{Bool, true, false, cond}
 use Prim.Native.Nat.{ℕ, suc, _+_, _≤_}
+use native.Mathlib.Omega.{arith}
 use lib.ListN.{length}
 use lib.Dec.{T, eqb}
 use Rattle.sponge.specs.Status.{unreachable}
-use Rattle.sponge.specs.Transcript.{Call, Call.absorb, Call.squeeze, Rules, Reply}
+use Rattle.sponge.specs.Transcript.{Call, Call.absorb, Call.customize, Call.finalize, Call.finish, Call.squeeze, Customization.upTo, Rules, Reply}
 use Rattle.sponge.specs.Runs.{Run, Machine, perform}
-use Rattle.sponge.specs.Streaming.{History, history, Streaming, told, ran}
+use Rattle.sponge.specs.Streaming.{History, history, joined, Streaming, told, ran}
 use Rattle.sponge.proofs.Streaming as generic
 use Rattle.sponge.proofs.Joining as joining
+use Rattle.sponge.proofs.Joining.{customizes}
 use Rattle.sponge.proofs.Reachable.{Statuses, Reached, Shape, reachable-reached, reached-reachable, status-five, five-status}
 
 -- ---- what is claimed
@@ -24,6 +26,10 @@ module _ {S A : Type 0} (U : Rules A) (M : Machine S A) (positions : S → List 
         → U .piece (length a) ≡ 0 → U .piece (length b) ≡ 0 → U .piece (length (a ++ b)) ≡ 0
         → perform U M (perform U M r (absorb a) .left) (absorb b) ≡ perform U M r (absorb (a ++ b))
     pub absorb-nothing : (r : Run S) → M .reachable r ≡ true → r .phase ≡ 0 → perform U M r (absorb []) ≡ record { status = 0; bytes = []; left = r }
+    pub customize-customize : (most : ℕ) (of : List ℕ → A) → U .customization ≡ upTo most of → (r : Run S) (a b : List ℕ) → M .reachable r ≡ true → (r .phase ≡ 1 → ⊥)
+        → M .customized (r .state) + length (a ++ b) ≤ most → perform U M (perform U M r (customize a) .left) (customize b) ≡ perform U M r (customize (a ++ b))
+    pub customize-nothing : (most : ℕ) (of : List ℕ → A) → U .customization ≡ upTo most of → (r : Run S) → M .reachable r ≡ true → r .phase ≡ 2
+        → perform U M r (customize []) ≡ record { status = 0; bytes = []; left = r }
     pub squeeze-squeeze : (r : Run S) (m n : ℕ) → M .reachable r ≡ true → r .phase ≡ 1 → r .squeezed + (m + n) ≤ U .outputLimit
         → record {
           status = perform U M (perform U M r (squeeze m) .left) (squeeze n) .status;
@@ -32,10 +38,21 @@ module _ {S A : Type 0} (U : Rules A) (M : Machine S A) (positions : S → List 
         } ≡ perform U M r (squeeze (m + n))
     pub squeeze-nothing : (r : Run S) → M .reachable r ≡ true → r .phase ≡ 1 → perform U M r (squeeze 0) ≡ record { status = 0; bytes = []; left = r }
 
-  -- a refused call hands back the run that it got and gives no byte; a done absorb grew the total by the piece's length
+  -- the two closes: C as one piece and the close of its phase, and the finalize with C, have one status and leave one run; and so for C in
+  -- pieces, however many
+  pub record Closes : Type 0 where
+    pub finish-finalize : (most : ℕ) (of : List ℕ → A) → U .customization ≡ upTo most of → (r : Run S) (c : List ℕ) → M .reachable r ≡ true → r .phase ≡ 0 → length c ≤ most
+        → perform U M (perform U M r (customize c) .left) finish ≡ perform U M r (finalize (of c))
+    pub pieces-finalize : (most : ℕ) (of : List ℕ → A) → U .customization ≡ upTo most of → (ps : List (List ℕ)) (r : Run S) (p : List ℕ) → M .reachable r ≡ true → r .phase ≡ 0
+        → length (p ++ joined ps) ≤ most → history (perform U M) r (customize p ∷ customizes ps) .left ≡ perform U M r (finalize (of (p ++ joined ps))) .left
+
+  -- a refused call hands back the run that it got and gives no byte; a done absorb grew the total by the piece's length, a done customization piece
+  -- that of the customization bytes
   pub record Refusals : Type 0 where
     pub refused : (r : Run S) (c : Call A) (n : ℕ) → perform U M r c .status ≡ suc n → (perform U M r c .left ≡ r) × (perform U M r c .bytes ≡ [])
     pub absorb-grows : (r : Run S) (p : List ℕ) → perform U M r (absorb p) .status ≡ 0 → perform U M r (absorb p) .left .absorbed ≡ r .absorbed + length p
+    pub customize-grows : (most : ℕ) (of : List ℕ → A) → U .customization ≡ upTo most of → (r : Run S) (p : List ℕ) → perform U M r (customize p) .status ≡ 0
+        → M .customized (perform U M r (customize p) .left .state) ≡ M .customized (r .state) + length p
 
   -- status 5 exactly when no list of calls from a fresh run reaches this phase, these totals and these positions
   pub record Five : Type 0 where
@@ -46,23 +63,40 @@ module _ {S A : Type 0} (U : Rules A) (M : Machine S A) (positions : S → List 
     pub streaming : (cs : List (Call A)) → Streaming U M cs
     pub equal-transcripts : (cs ds : List (Call A)) → told U M cs .left ≡ told U M ds .left → ran U M cs .left ≡ ran U M ds .left
     pub joins : Joins
+    pub closes : Closes
     pub refusals : Refusals
     pub five : Five
 
 -- ---- the proof, once for every function
 
-module _ {S A : Type 0} (U : Rules A) (M : Machine S A) (L : generic.Laws U M) (stays : joining.Stays U M) (positions : S → List ℕ) (due : ℕ → ℕ → ℕ → List ℕ)
-    (shape : (r : Run S) → M .reachable r ≡ true → Shape U positions due r) (shaped : (r : Run S) → Shape U positions due r → M .reachable r ≡ true)
-    (O : Statuses U) where
+module _ {S A : Type 0} (U : Rules A) (M : Machine S A) (L : generic.Laws U M) (stays : joining.Stays U M) (positions : S → List ℕ) (due : ℕ → ℕ → ℕ → ℕ → List ℕ)
+    (shape : (r : Run S) → M .reachable r ≡ true → Shape U M positions due r) (shaped : (r : Run S) → Shape U M positions due r → M .reachable r ≡ true)
+    (O : Statuses U M) where
   squeeze-nothing : (r : Run S) → M .reachable r ≡ true → r .phase ≡ 1 → perform U M r (squeeze 0) ≡ record { status = 0; bytes = []; left = r }
   squeeze-nothing r h o =
-      let fits : r .squeezed ≤ U .outputLimit = subst (λ (p : ℕ). r .squeezed ≤ cond (eqb p 0) 0 (U .outputLimit)) o (shape r h .squeezed-fits) in
+      let fits : r .squeezed ≤ U .outputLimit = subst (λ (p : ℕ). r .squeezed ≤ cond (eqb p 1) (U .outputLimit) 0) o (shape r h .squeezed-fits) in
       joining.squeeze-nothing U M L stays r h o fits
+
+  customize-nothing : (most : ℕ) (of : List ℕ → A) → U .customization ≡ upTo most of → (r : Run S) → M .reachable r ≡ true → r .phase ≡ 2
+      → perform U M r (customize []) ≡ record { status = 0; bytes = []; left = r }
+  customize-nothing most of named r h o = joining.customize-nothing U M L stays most of named r h o (rw (o, named) at (shape r h .customized-fits))
+
+  -- no customization byte was absorbed before the message's end
+  not-customized : (r : Run S) → M .reachable r ≡ true → r .phase ≡ 0 → M .customized (r .state) ≡ 0
+  not-customized r h o = let z : M .customized (r .state) ≤ 0 = rw o at (shape r h .customized-fits) in omega (arith, z)
+
+  closes : Closes U M positions
+  closes = record {
+    finish-finalize = λ most of named r c h o l. joining.finish-finalize U M L stays most of named r c h o (not-customized r h o) l;
+    pieces-finalize = λ most of named ps r p h o l. joining.pieces-finalize U M L stays most of named ps r p h o (not-customized r h o) l;
+  }
 
   joins : Joins U M positions
   joins = record {
     absorb-absorb = joining.absorb-absorb U M L stays;
     absorb-nothing = λ r h o. joining.absorb-nothing U M L stays r h o (shape r h .absorbed-fits) (O .nothing-taken);
+    customize-customize = joining.customize-customize U M L stays;
+    customize-nothing = customize-nothing;
     squeeze-squeeze = joining.squeeze-squeeze U M L stays;
     squeeze-nothing = squeeze-nothing;
   }
@@ -82,7 +116,8 @@ module _ {S A : Type 0} (U : Rules A) (M : Machine S A) (L : generic.Laws U M) (
     streaming = generic.streaming U M L;
     equal-transcripts = joining.equal-transcripts U M L;
     joins = joins;
-    refusals = record { refused = joining.refused U M; absorb-grows = joining.absorb-grows U M };
+    closes = closes;
+    refusals = record { refused = joining.refused U M; absorb-grows = joining.absorb-grows U M; customize-grows = joining.customize-grows U M L };
     five = record { five-unreached = five-unreached; unreached-five = unreached-five };
   }
 

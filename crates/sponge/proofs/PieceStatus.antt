@@ -10,9 +10,9 @@ use lib.ListN.{length}
 use lib.Dec.{eqb}
 use borrow.Author.Tests.{le-leb}
 use Rattle.sponge.specs.Status.{firstOf}
-use Rattle.sponge.specs.Transcript.{Call.absorb, Call.finalize, Call.squeeze, Phase, Phase.absorbing, Phase.squeezing, Transcript, Rules, withPieces, transcribe}
+use Rattle.sponge.specs.Transcript.{Call, Call.absorb, Call.customize, Call.finalize, Call.finish, Call.squeeze, Phase, Phase.absorbing, Phase.customizing, Phase.squeezing, Transcript, Customization, Customization.none, Customization.upTo, Rules, withPieces, transcribe}
 use Rattle.sponge.specs.Runs.{Run, Machine, perform}
-use Rattle.sponge.proofs.Streaming.{Fits, Laws}
+use Rattle.sponge.proofs.Streaming.{Fits, Named, Laws}
 
 -- ---- what is owed
 
@@ -21,17 +21,32 @@ pub fits-with : {A : Type 0} (U : Rules A) (piece : ℕ → ℕ) (t : Transcript
 fits-with {A} U piece t h = by (t .absorbed) (t .phase) (t .squeezed) h
   where
     by : (f : List ℕ) (h : Phase A) (n : ℕ) → Fits U (record { absorbed = f; phase = h; squeezed = n }) → Fits (withPieces U piece) (record { absorbed = f; phase = h; squeezed = n })
-    by f absorbing n t = record { input-fits = t .input-fits; output-fits = t .output-fits }
-    by f (squeezing a) n t = record { input-fits = t .input-fits; output-fits = t .output-fits }
+    by f absorbing n t = record { input-fits = t .input-fits; output-fits = t .output-fits; phase-taken = t .phase-taken }
+    by f (customizing c) n t = record { input-fits = t .input-fits; output-fits = t .output-fits; phase-taken = t .phase-taken }
+    by f (squeezing a) n t = record { input-fits = t .input-fits; output-fits = t .output-fits; phase-taken = t .phase-taken }
 
 pub fits-without : {A : Type 0} (U : Rules A) (piece : ℕ → ℕ) (t : Transcript A) → Fits (withPieces U piece) t → Fits U t
 fits-without U piece t h = fits-with (withPieces U piece) (U .piece) t h
 
 module _ {S A : Type 0} (U : Rules A) (M : Machine S A) (piece : ℕ → ℕ) where
+  named : (v : Customization A) → Named U M v → Named (withPieces U piece) M v
+  named none m = tt
+  named (upTo most of) m = record {
+    customize-nothing = m .customize-nothing;
+    customize-append = m .customize-append;
+    customized-grows = m .customized-grows;
+    finish-finalize = m .finish-finalize;
+    argument-taken = m .argument-taken;
+  }
+
   pub laws : Laws U M → Laws (withPieces U piece) M
   laws L = record {
     absorb-nothing = L .absorb-nothing;
     absorb-append = L .absorb-append;
+    customized-fresh = L .customized-fresh;
+    customized-absorb = L .customized-absorb;
+    customized-after = L .customized-after;
+    customizes = named (U .customization) (L .customizes);
     after-zero = L .after-zero;
     after-add = L .after-add;
     squeeze-add = L .squeeze-add;
@@ -40,31 +55,33 @@ module _ {S A : Type 0} (U : Rules A) (M : Machine S A) (piece : ℕ → ℕ) wh
     run-reachable = λ t h. L .run-reachable t (fits-without U piece t h);
   }
 
-  -- ---- what a call does, to a run and to a transcript
+-- ---- what a call does, to a transcript and to a run
 
-  pub finalize-same : (r : Run S) (a : A) → perform U M r (finalize a) ≡ perform (withPieces U piece) M r (finalize a)
-  unfolding perform
-  finalize-same r a = refl
+module _ {A : Type 0} (U : Rules A) (piece : ℕ → ℕ) where
+  -- the two functions have one status for a call: any but an absorb, and an absorb whose piece has one
+  abbrev pub Agree : Call A → Type 0
+  Agree (absorb p) = U .piece (length p) ≡ piece (length p)
+  Agree (customize p) = Unit {0}
+  Agree (finalize a) = Unit {0}
+  Agree finish = Unit {0}
+  Agree (squeeze k) = Unit {0}
 
-  pub squeeze-same : (r : Run S) (k : ℕ) → perform U M r (squeeze k) ≡ perform (withPieces U piece) M r (squeeze k)
-  unfolding perform
-  squeeze-same r k = refl
-
-  pub absorb-same : (r : Run S) (p : List ℕ) → U .piece (length p) ≡ 0 → piece (length p) ≡ 0 → perform U M r (absorb p) ≡ perform (withPieces U piece) M r (absorb p)
-  unfolding perform
-  absorb-same r p e f = rw (e, f)
-
-  pub finalize-told : (t : Transcript A) (a : A) → transcribe U t (finalize a) ≡ transcribe (withPieces U piece) t (finalize a)
+  pub transcribe-same : (t : Transcript A) (c : Call A) → Agree c → transcribe U t c ≡ transcribe (withPieces U piece) t c
   unfolding transcribe
-  finalize-told t a = refl
+  transcribe-same t (absorb p) e = rw e
+  transcribe-same t (customize p) e = refl
+  transcribe-same t (finalize a) e = refl
+  transcribe-same t finish e = refl
+  transcribe-same t (squeeze k) e = refl
 
-  pub squeeze-told : (t : Transcript A) (k : ℕ) → transcribe U t (squeeze k) ≡ transcribe (withPieces U piece) t (squeeze k)
-  unfolding transcribe
-  squeeze-told t k = refl
-
-  pub absorb-told : (t : Transcript A) (p : List ℕ) → U .piece (length p) ≡ 0 → piece (length p) ≡ 0 → transcribe U t (absorb p) ≡ transcribe (withPieces U piece) t (absorb p)
-  unfolding transcribe
-  absorb-told t p e f = rw (e, f)
+module _ {S A : Type 0} (U : Rules A) (M : Machine S A) (piece : ℕ → ℕ) where
+  pub perform-same : (r : Run S) (c : Call A) → Agree U piece c → perform U M r c ≡ perform (withPieces U piece) M r c
+  unfolding perform
+  perform-same r (absorb p) e = rw e
+  perform-same r (customize p) e = refl
+  perform-same r (finalize a) e = refl
+  perform-same r finish e = refl
+  perform-same r (squeeze k) e = refl
 
   -- a piece that is refused by itself gets what nothing would get, and its own status where that is done; a run that 5 does not refuse
   -- has absorbed no more than the limit

@@ -13,7 +13,8 @@ badDomain = 1
 abbrev pub inputTooLong : ℕ
 inputTooLong = 2
 
--- an absorb or a finalize after the finalize, or a squeeze before it
+-- a call of another phase: an absorb or a finalize after the message, a customization piece after the close, the close of a customization phase
+-- outside it, a squeeze before the close
 abbrev pub wrongPhase : ℕ
 wrongPhase = 3
 
