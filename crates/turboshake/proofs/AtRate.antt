@@ -9,7 +9,7 @@ use lib.ListN.{length}
 use Rattle.sponge.specs.Model.{valid}
 use Rattle.sponge.proofs.Valid.{valid-fits, fits-valid}
 use Rattle.turboshake.specs.Published.{turboshake}
-use Rattle.turboshake.specs.Transcript.{limit}
+use Rattle.turboshake.specs.Transcript.{messageLimit, outputLimit}
 use Rattle.turboshake.specs.Model.{hashStatus, hashOutput, hashAtStatus, hashAtOutput}
 use Rattle.turboshake.proofs.OneGo.{hash-0, hash-written}
 use Rattle.turboshake.proofs.Pieces.{domain-taken}
@@ -40,7 +40,7 @@ module _ (rate : ℕ) (pos : 0 < rate) (most : rate ≤ 200) where
   at-output m d out = rw (← at-status (length m) d (length out))
 
   -- within the limits: the published output
-  pub at-written : (m : List ℕ) (d : ℕ) (out : List ℕ) → 0 < d → d ≤ 0x7F → length m ≤ limit → 0 < length out → length out ≤ limit
+  pub at-written : (m : List ℕ) (d : ℕ) (out : List ℕ) → 0 < d → d ≤ 0x7F → length m ≤ messageLimit → 0 < length out → length out ≤ outputLimit
       → hashAtOutput rate m d out ≡ turboshake rate m d (length out)
   at-written m d out lo hi f g h =
       let some : length out ≡ 0 → ⊥ = λ e. omega arith in

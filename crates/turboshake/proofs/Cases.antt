@@ -18,7 +18,7 @@ use Rattle.sponge.proofs.Valid.{output-done as valid-output}
 use Rattle.sponge.proofs.Joining.{perform-done, perform-refused}
 use Rattle.sponge.proofs.Answers as answers
 use Rattle.sponge.proofs.Reachable.{Shape}
-use Rattle.turboshake.specs.Transcript.{limit, domainStatus, rules}
+use Rattle.turboshake.specs.Transcript.{messageLimit, outputLimit, domainStatus, rules}
 use Rattle.turboshake.specs.Model.{reachable, machine, seen, held, answerOf, outputOf}
 use Rattle.turboshake.specs.declared.Run.{Run}
 use Rattle.turboshake.proofs.Laws.{positions, due, shape, first-is}
@@ -32,15 +32,15 @@ position-suc rate zero h = absurd (h refl)
 position-suc rate (suc n) h = let e : suc n - 1 ≡ n = omega arith in rw (e, add-one)
 
 -- what a run has that 5 does not refuse
-pub fits : (rate : ℕ) (r : Run) → 0 < rate → reachable rate (r .position) (r .phase) (r .absorbed) (r .squeezed) ≡ true → (r .position ≤ rate) × (r .absorbed ≤ limit) × (r .squeezed ≤ limit)
+pub fits : (rate : ℕ) (r : Run) → 0 < rate → reachable rate (r .position) (r .phase) (r .absorbed) (r .squeezed) ≡ true → (r .position ≤ rate) × (r .absorbed ≤ messageLimit) × (r .squeezed ≤ outputLimit)
 unfolding machine rules
 fits rate r h e =
-    let t : Shape (rules rate) positions (due rate) (seen r) = shape rate (seen r) e in
-    (rw (first-is _ _ (t .positions-due)) (position-le rate (cond (eqb (r .phase) 0) (r .absorbed) (r .squeezed)) h), t .absorbed-fits, below (eqb (r .phase) 0) (t .squeezed-fits))
+    let t : Shape (rules rate) (machine rate) positions (due rate) (seen r) = shape rate (seen r) e in
+    (rw (first-is _ _ (t .positions-due)) (position-le rate (cond (eqb (r .phase) 0) (r .absorbed) (r .squeezed)) h), t .absorbed-fits, below (eqb (r .phase) 1) (t .squeezed-fits))
   where
-    below : (t : Bool) → r .squeezed ≤ cond t 0 limit → r .squeezed ≤ limit
-    below true g = omega arith
-    below false g = g
+    below : (t : Bool) → r .squeezed ≤ cond t outputLimit 0 → r .squeezed ≤ outputLimit
+    below true g = g
+    below false g = omega arith
 
 module _ (rate : ℕ) (r : Run) where
   pub status : Call ℕ → ℕ
@@ -57,11 +57,11 @@ module _ (rate : ℕ) (r : Run) where
     unfolding machine status
     absorb-3 = answers.absorb-3 (rules rate) (machine rate) (seen r) e
 
-    pub absorb-2 : (p : List ℕ) → r .phase ≡ 0 → limit < r .absorbed + length p → status (absorb p) ≡ 2
+    pub absorb-2 : (p : List ℕ) → r .phase ≡ 0 → messageLimit < r .absorbed + length p → status (absorb p) ≡ 2
     unfolding machine rules status
     absorb-2 p f g = answers.absorb-2 (rules rate) (machine rate) (seen r) e p f refl g
 
-    pub absorb-0 : (p : List ℕ) → r .phase ≡ 0 → r .absorbed + length p ≤ limit → status (absorb p) ≡ 0
+    pub absorb-0 : (p : List ℕ) → r .phase ≡ 0 → r .absorbed + length p ≤ messageLimit → status (absorb p) ≡ 0
     unfolding machine rules status
     absorb-0 p f g = answers.absorb-0 (rules rate) (machine rate) (seen r) e p f refl g
 
@@ -77,11 +77,11 @@ module _ (rate : ℕ) (r : Run) where
     unfolding machine status
     squeeze-3 = answers.squeeze-3 (rules rate) (machine rate) (seen r) e
 
-    pub squeeze-6 : (k : ℕ) → r .phase ≡ 1 → limit < r .squeezed + k → status (squeeze k) ≡ 6
+    pub squeeze-6 : (k : ℕ) → r .phase ≡ 1 → outputLimit < r .squeezed + k → status (squeeze k) ≡ 6
     unfolding machine rules status
     squeeze-6 = answers.squeeze-6 (rules rate) (machine rate) (seen r) e
 
-    pub squeeze-0 : (k : ℕ) → r .phase ≡ 1 → r .squeezed + k ≤ limit → status (squeeze k) ≡ 0
+    pub squeeze-0 : (k : ℕ) → r .phase ≡ 1 → r .squeezed + k ≤ outputLimit → status (squeeze k) ≡ 0
     unfolding machine rules status
     squeeze-0 = answers.squeeze-0 (rules rate) (machine rate) (seen r) e
 

@@ -13,7 +13,7 @@ use Rattle.keccak.specs.Permutation.{permuted}
 use Rattle.sponge.specs.Published.{xorByte}
 use Rattle.sponge.specs.Waiting.{positionAfter}
 use Rattle.sponge.specs.Model.{Sponge, fresh, absorbBytes, pad}
-use Rattle.sponge.specs.Transcript.{Call, Call.absorb, Call.finalize, Call.squeeze, Phase, Phase.absorbing, Phase.squeezing, statusOf}
+use Rattle.sponge.specs.Transcript.{Call, Call.absorb, Call.customize, Call.finalize, Call.finish, Call.squeeze, Phase, Phase.absorbing, Phase.customizing, Phase.squeezing, statusOf}
 use Rattle.sponge.specs.Runs.{Run, worked, runOf}
 use Rattle.sponge.proofs.Waiting.{steps-append}
 use Rattle.sponge.proofs.Position.{steps-position, after-position}
@@ -22,7 +22,7 @@ use Rattle.sponge.proofs.Valid.{pad-position}
 use Rattle.sponge.proofs.Streaming.{cond-zero, Fits, Laws}
 use Rattle.sponge.proofs.Joining.{Stays}
 use Rattle.sponge.proofs.Reachable.{Shape}
-use Rattle.turboshake.specs.Transcript.{limit, rules}
+use Rattle.turboshake.specs.Transcript.{messageLimit, outputLimit, rules}
 use Rattle.turboshake.specs.Model.{reachable, machine}
 use Rattle.turboshake.proofs.Published.{squeeze-turboshake}
 
@@ -30,8 +30,8 @@ use Rattle.turboshake.proofs.Published.{squeeze-turboshake}
 abbrev pub positions : Sponge → List ℕ
 positions s = s .position ∷ []
 
-abbrev pub due : ℕ → ℕ → ℕ → ℕ → List ℕ
-due rate phase absorbed squeezed = positionAfter rate (cond (eqb phase 0) absorbed squeezed) ∷ []
+abbrev pub due : ℕ → ℕ → ℕ → ℕ → ℕ → List ℕ
+due rate phase absorbed customized squeezed = positionAfter rate (cond (eqb phase 0) absorbed squeezed) ∷ []
 
 both : (a b : Bool) → a && b ≡ true → (a ≡ true) × (b ≡ true)
 both a b e = and-eq-true-iff a b .0 e
@@ -43,44 +43,46 @@ module _ (rate : ℕ) where
   -- ---- the test of status 5 says what Shape says
 
   shape-by : (s : Sponge) (h n k : ℕ) → reachable rate (s .position) h n k ≡ true
-      → Shape (rules rate) positions (due rate) (record { state = s; phase = h; absorbed = n; squeezed = k })
-  unfolding reachable rules
+      → Shape (rules rate) (machine rate) positions (due rate) (record { state = s; phase = h; absorbed = n; squeezed = k })
+  unfolding reachable rules machine
   shape-by s zero n k e =
-      let a = both (leb n limit) _ e in
+      let a = both (leb n messageLimit) _ e in
       let b = both (eqb k 0) (eqb (s .position) (positionAfter rate n)) (a .1) in
       record {
         phase-fits = omega arith;
         absorbed-fits = leb-true _ _ (a .0);
+        customized-fits = zero-le;
         squeezed-fits = omega (arith, eqb-true k 0 (b .0));
         positions-due = ap (λ (p : ℕ). p ∷ []) (eqb-true _ _ (b .1));
       }
   shape-by s (suc zero) n k e =
-      let a = both (leb n limit) _ e in
-      let b = both (leb k limit) (eqb (s .position) (positionAfter rate k)) (a .1) in
+      let a = both (leb n messageLimit) _ e in
+      let b = both (leb k outputLimit) (eqb (s .position) (positionAfter rate k)) (a .1) in
       record {
         phase-fits = omega arith;
         absorbed-fits = leb-true _ _ (a .0);
+        customized-fits = zero-le;
         squeezed-fits = leb-true _ _ (b .0);
         positions-due = ap (λ (p : ℕ). p ∷ []) (eqb-true _ _ (b .1));
       }
   shape-by s (suc (suc h)) n k e =
-      let a = both (leb n limit) _ (rw (ne-eqb (suc (suc h)) 0 (λ e. omega arith), ne-eqb (suc (suc h)) 1 (λ e. omega arith)) at e) in
+      let a = both (leb n messageLimit) _ (rw (ne-eqb (suc (suc h)) 0 (λ e. omega arith), ne-eqb (suc (suc h)) 1 (λ e. omega arith)) at e) in
       absurd (subst T (sym (a .1)) tt)
 
-  pub shape : (r : Run Sponge) → machine rate .reachable r ≡ true → Shape (rules rate) positions (due rate) r
+  pub shape : (r : Run Sponge) → machine rate .reachable r ≡ true → Shape (rules rate) (machine rate) positions (due rate) r
   unfolding machine
   shape r e = shape-by (r .state) (r .phase) (r .absorbed) (r .squeezed) e
 
-  shaped-by : (s : Sponge) (h n k : ℕ) → Shape (rules rate) positions (due rate) (record { state = s; phase = h; absorbed = n; squeezed = k })
+  shaped-by : (s : Sponge) (h n k : ℕ) → Shape (rules rate) (machine rate) positions (due rate) (record { state = s; phase = h; absorbed = n; squeezed = k })
       → reachable rate (s .position) h n k ≡ true
-  unfolding reachable rules
+  unfolding reachable rules machine
   shaped-by s zero n k t =
       let z : k ≡ 0 = omega (arith, t .squeezed-fits) in
-      rw (le-leb n limit (t .absorbed-fits), eq-eqb k 0 z, eq-eqb (s .position) (positionAfter rate n) (first-is _ _ (t .positions-due)))
-  shaped-by s (suc zero) n k t = rw (le-leb n limit (t .absorbed-fits), le-leb k limit (t .squeezed-fits), eq-eqb (s .position) (positionAfter rate k) (first-is _ _ (t .positions-due)))
+      rw (le-leb n messageLimit (t .absorbed-fits), eq-eqb k 0 z, eq-eqb (s .position) (positionAfter rate n) (first-is _ _ (t .positions-due)))
+  shaped-by s (suc zero) n k t = rw (le-leb n messageLimit (t .absorbed-fits), le-leb k outputLimit (t .squeezed-fits), eq-eqb (s .position) (positionAfter rate k) (first-is _ _ (t .positions-due)))
   shaped-by s (suc (suc h)) n k t = absurd (let l = t .phase-fits in omega arith)
 
-  pub shaped : (r : Run Sponge) → Shape (rules rate) positions (due rate) r → machine rate .reachable r ≡ true
+  pub shaped : (r : Run Sponge) → Shape (rules rate) (machine rate) positions (due rate) r → machine rate .reachable r ≡ true
   unfolding machine
   shaped r t = shaped-by (r .state) (r .phase) (r .absorbed) (r .squeezed) t
 
@@ -88,17 +90,20 @@ module _ (rate : ℕ) where
 
   module _ (pos : 0 < rate) where
     reaches : (f : List ℕ) (h : Phase ℕ) (n : ℕ) → Fits (rules rate) (record { absorbed = f; phase = h; squeezed = n })
-        → Shape (rules rate) positions (due rate) (runOf (rules rate) (machine rate) (record { absorbed = f; phase = h; squeezed = n }))
+        → Shape (rules rate) (machine rate) positions (due rate) (runOf (rules rate) (machine rate) (record { absorbed = f; phase = h; squeezed = n }))
     unfolding rules machine
     reaches f absorbing n t = record {
       phase-fits = zero-le;
       absorbed-fits = t .input-fits;
+      customized-fits = zero-le;
       squeezed-fits = t .output-fits;
       positions-due = ap (λ (p : ℕ). p ∷ []) (steps-position permuted xorByte rate pos 0 fresh f refl ∙ ap (positionAfter rate) (zero-add (length f)));
     }
+    reaches f (customizing c) n t = absurd (t .phase-taken)
     reaches f (squeezing d) n t = record {
       phase-fits = omega arith;
       absorbed-fits = t .input-fits;
+      customized-fits = zero-le;
       squeezed-fits = t .output-fits;
       positions-due =
           ap (λ (p : ℕ). p ∷ [])
@@ -114,6 +119,10 @@ module _ (rate : ℕ) where
     laws = record {
       absorb-nothing = λ n s. refl;
       absorb-append = absorb-joins;
+      customized-fresh = refl;
+      customized-absorb = λ n s p. refl;
+      customized-after = λ n s. refl;
+      customizes = tt;
       after-zero = λ s. refl;
       after-add = after-add permuted rate pos;
       squeeze-add = squeeze-add permuted rate pos;
@@ -124,13 +133,14 @@ module _ (rate : ℕ) where
 
     -- ---- a run that 5 does not refuse stays one
 
-    stays-by : (s : Sponge) (h n k : ℕ) (c : Call ℕ) → Shape (rules rate) positions (due rate) (record { state = s; phase = h; absorbed = n; squeezed = k })
-        → statusOf (rules rate) h n k c ≡ 0
-        → Shape (rules rate) positions (due rate) (worked (rules rate) (machine rate) (record { state = s; phase = h; absorbed = n; squeezed = k }) c)
+    stays-by : (s : Sponge) (h n k : ℕ) (c : Call ℕ) → Shape (rules rate) (machine rate) positions (due rate) (record { state = s; phase = h; absorbed = n; squeezed = k })
+        → statusOf (rules rate) h n 0 k c ≡ 0
+        → Shape (rules rate) (machine rate) positions (due rate) (worked (rules rate) (machine rate) (record { state = s; phase = h; absorbed = n; squeezed = k }) c)
     unfolding rules machine
     stays-by s zero n k (absorb p) t e = record {
       phase-fits = zero-le;
       absorbed-fits = leb-true _ _ (cond-zero _ _ e);
+      customized-fits = zero-le;
       squeezed-fits = t .squeezed-fits;
       positions-due = ap (λ (p : ℕ). p ∷ []) (steps-position permuted xorByte rate pos n s p (first-is _ _ (t .positions-due)));
     }
@@ -139,19 +149,26 @@ module _ (rate : ℕ) where
         record {
           phase-fits = omega arith;
           absorbed-fits = t .absorbed-fits;
+          customized-fits = zero-le;
           squeezed-fits = rw z zero-le;
           positions-due = rw z (ap (λ (p : ℕ). p ∷ []) (pad-position permuted rate s d));
         }
+    stays-by s zero n k (customize p) t e = absurd (omega arith)
+    stays-by s zero n k finish t e = absurd (omega arith)
     stays-by s zero n k (squeeze j) t e = absurd (omega arith)
     stays-by s (suc zero) n k (absorb p) t e = absurd (omega arith)
+    stays-by s (suc zero) n k (customize p) t e = absurd (omega arith)
     stays-by s (suc zero) n k (finalize d) t e = absurd (omega arith)
+    stays-by s (suc zero) n k finish t e = absurd (omega arith)
     stays-by s (suc zero) n k (squeeze j) t e = record {
       phase-fits = t .phase-fits;
       absorbed-fits = t .absorbed-fits;
+      customized-fits = zero-le;
       squeezed-fits = leb-true _ _ (cond-zero _ _ e);
       positions-due = ap (λ (p : ℕ). p ∷ []) (after-position permuted rate pos k s j (first-is _ _ (t .positions-due)));
     }
     stays-by s (suc (suc h)) n k c t e = absurd (let l = t .phase-fits in omega arith)
 
     pub stays : Stays (rules rate) (machine rate)
+    unfolding machine
     stays r c h e = shaped (worked (rules rate) (machine rate) r c) (stays-by (r .state) (r .phase) (r .absorbed) (r .squeezed) c (shape r h) e)

@@ -14,7 +14,7 @@ use Rattle.sponge.proofs.FirstStatus.{first-refused}
 use Rattle.sponge.proofs.Position.{steps-position}
 use Rattle.sponge.proofs.Valid.{fits-valid, absorb-done, pad-done, squeeze-done, output-done, zero-lanes, pad-position}
 use Rattle.turboshake.specs.Published.{turboshake}
-use Rattle.turboshake.specs.Transcript.{limit, domainStatus}
+use Rattle.turboshake.specs.Transcript.{messageLimit, outputLimit, domainStatus}
 use Rattle.turboshake.specs.Model.{hashStatus, hashOutput}
 use Rattle.turboshake.proofs.Published.{squeeze-turboshake}
 use Rattle.turboshake.proofs.Cases.{position-le}
@@ -27,21 +27,21 @@ module _ (m d n : ℕ) where
   hash-1 e = sym (first-refused (domainStatus d) _ e)
 
   module _ (e : domainStatus d ≡ 0) where
-    pub hash-2 : limit < m → 2 ≡ hashStatus m d n
+    pub hash-2 : messageLimit < m → 2 ≡ hashStatus m d n
     unfolding hashStatus
-    hash-2 f = rw (e, lt-leb m limit f)
+    hash-2 f = rw (e, lt-leb m messageLimit f)
 
-    pub hash-7 : m ≤ limit → n ≡ 0 → 7 ≡ hashStatus m d n
+    pub hash-7 : m ≤ messageLimit → n ≡ 0 → 7 ≡ hashStatus m d n
     unfolding hashStatus
-    hash-7 f g = rw (e, le-leb m limit f, eq-eqb n 0 g)
+    hash-7 f g = rw (e, le-leb m messageLimit f, eq-eqb n 0 g)
 
-    pub hash-6 : m ≤ limit → (n ≡ 0 → ⊥) → limit < n → 6 ≡ hashStatus m d n
+    pub hash-6 : m ≤ messageLimit → (n ≡ 0 → ⊥) → outputLimit < n → 6 ≡ hashStatus m d n
     unfolding hashStatus
-    hash-6 f g h = rw (e, le-leb m limit f, ne-eqb n 0 g, lt-leb n limit h)
+    hash-6 f g h = rw (e, le-leb m messageLimit f, ne-eqb n 0 g, lt-leb n outputLimit h)
 
-    pub hash-0 : m ≤ limit → (n ≡ 0 → ⊥) → n ≤ limit → 0 ≡ hashStatus m d n
+    pub hash-0 : m ≤ messageLimit → (n ≡ 0 → ⊥) → n ≤ outputLimit → 0 ≡ hashStatus m d n
     unfolding hashStatus
-    hash-0 f g h = rw (e, le-leb m limit f, ne-eqb n 0 g, le-leb n limit h)
+    hash-0 f g h = rw (e, le-leb m messageLimit f, ne-eqb n 0 g, le-leb n outputLimit h)
 
 -- ---- the output
 

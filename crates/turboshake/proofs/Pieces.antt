@@ -11,7 +11,7 @@ use Rattle.sponge.specs.Transcript.{Call.absorb, Call.finalize, Call.squeeze, R
 use Rattle.sponge.specs.Runs as runs
 use Rattle.sponge.proofs.Pieces as pieces
 use Rattle.turboshake.specs.Published.{turboshake}
-use Rattle.turboshake.specs.Transcript.{limit, domainStatus, rules}
+use Rattle.turboshake.specs.Transcript.{messageLimit, outputLimit, domainStatus, rules}
 use Rattle.turboshake.specs.Model.{machine, held, freshOf, Answer, answerOf, outputOf}
 use Rattle.turboshake.specs.declared.Run.{Run}
 use Rattle.turboshake.proofs.Laws.{laws}
@@ -45,29 +45,29 @@ module _ (rate : ℕ) (pos : 0 < rate) where
   unfolding freshOf absorbedRun machine
   fresh-absorbed = refl
 
-  pub absorb-piece : (m p : List ℕ) → length (m ++ p) ≤ limit → answerOf rate (absorbedRun m) (absorb p) ≡ record { status = 0; run = absorbedRun (m ++ p) }
+  pub absorb-piece : (m p : List ℕ) → length (m ++ p) ≤ messageLimit → answerOf rate (absorbedRun m) (absorb p) ≡ record { status = 0; run = absorbedRun (m ++ p) }
   unfolding absorbedRun answerOf answered rules
   absorb-piece m p l = ap answered (pieces.absorb-piece (rules rate) (machine rate) (laws rate pos) m p refl l)
 
-  pub absorb-long : (m p : List ℕ) → length m ≤ limit → limit < length (m ++ p) → answerOf rate (absorbedRun m) (absorb p) ≡ record { status = 2; run = absorbedRun m }
+  pub absorb-long : (m p : List ℕ) → length m ≤ messageLimit → messageLimit < length (m ++ p) → answerOf rate (absorbedRun m) (absorb p) ≡ record { status = 2; run = absorbedRun m }
   unfolding absorbedRun answerOf answered rules
   absorb-long m p h l = ap answered (pieces.absorb-long (rules rate) (machine rate) (laws rate pos) m p refl h l)
 
-  pub finalize-run : (m : List ℕ) (d : ℕ) → length m ≤ limit → domainStatus d ≡ 0 → answerOf rate (absorbedRun m) (finalize d) ≡ record { status = 0; run = finalizedRun m d }
+  pub finalize-run : (m : List ℕ) (d : ℕ) → length m ≤ messageLimit → domainStatus d ≡ 0 → answerOf rate (absorbedRun m) (finalize d) ≡ record { status = 0; run = finalizedRun m d }
   unfolding absorbedRun finalizedRun answerOf answered rules
   finalize-run m d h e = ap answered (pieces.finalize-run (rules rate) (machine rate) (laws rate pos) m d h e)
 
   -- the published output, or a refusal that leaves the output as it was
-  pub squeeze-run : (m : List ℕ) (d : ℕ) (out : List ℕ) → length m ≤ limit → length out ≤ limit
+  pub squeeze-run : (m : List ℕ) (d : ℕ) (out : List ℕ) → length m ≤ messageLimit → domainStatus d ≡ 0 → length out ≤ outputLimit
       → (answerOf rate (finalizedRun m d) (squeeze (length out)) .status ≡ 0) × (outputOf rate (finalizedRun m d) out ≡ turboshake rate m d (length out))
   unfolding finalizedRun answerOf outputOf rules
-  squeeze-run m d out h l =
-      let e = pieces.squeeze-run (rules rate) (machine rate) (laws rate pos) m d (length out) h l in
+  squeeze-run m d out h t l =
+      let e = pieces.squeeze-run (rules rate) (machine rate) (laws rate pos) m d (length out) h t l in
       (ap (λ (y : Reply (runs.Run Sponge)). y .status) e, ap (λ (y : Reply (runs.Run Sponge)). lent (y .status) (y .bytes) out) e)
 
-  pub squeeze-long : (m : List ℕ) (d : ℕ) (out : List ℕ) → length m ≤ limit → limit < length out
+  pub squeeze-long : (m : List ℕ) (d : ℕ) (out : List ℕ) → length m ≤ messageLimit → domainStatus d ≡ 0 → outputLimit < length out
       → (answerOf rate (finalizedRun m d) (squeeze (length out)) .status ≡ 6) × (outputOf rate (finalizedRun m d) out ≡ out)
   unfolding finalizedRun answerOf outputOf rules
-  squeeze-long m d out h l =
-      let e = pieces.squeeze-long (rules rate) (machine rate) (laws rate pos) m d (length out) h l in
+  squeeze-long m d out h t l =
+      let e = pieces.squeeze-long (rules rate) (machine rate) (laws rate pos) m d (length out) h t l in
       (ap (λ (y : Reply (runs.Run Sponge)). y .status) e, ap (λ (y : Reply (runs.Run Sponge)). lent (y .status) (y .bytes) out) e)

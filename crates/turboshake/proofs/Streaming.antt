@@ -4,7 +4,7 @@
 use mathlib.Core.Path.{_≡_, refl, _∙_}
 use mathlib.Core.List.{List}
 use mathlib.Core.Bool.{Bool, true, false, cond, _&&_}
-use Prim.Native.Nat.{ℕ, _<_}
+use Prim.Native.Nat.{ℕ, _<_, _≤_}
 use native.Mathlib.Omega.{arith}
 use lib.Dec.{leb}
 use Rattle.sponge.specs.Status.{unreachable}
@@ -27,9 +27,21 @@ no-five rate d e = by (leb 1 d && leb d 0x7F) e
     by true e = omega arith
     by false e = omega arith
 
-statuses : (rate : ℕ) → Statuses (rules rate)
-unfolding rules domainStatus
-statuses rate = record { nothing-taken = refl; byte-taken = refl; piece-other = λ n e. omega arith; some = 1; some-taken = refl; argument-other = no-five rate }
+-- a D has no customization bytes
+none-counted : (m : ℕ) → m ≤ 0 → 0 ≡ m
+none-counted m l = omega arith
+
+statuses : (rate : ℕ) → Statuses (rules rate) (machine rate)
+unfolding rules domainStatus machine
+statuses rate = record {
+  nothing-taken = refl;
+  byte-taken = refl;
+  piece-other = λ n e. omega arith;
+  some = λ m. 1;
+  some-taken = λ m l. refl;
+  some-counted = λ n s m l. none-counted m l;
+  argument-other = no-five rate;
+}
 
 -- the list theorem at the published TurboSHAKE, calls in a row, refusals, and status 5 in both directions
 pub corollaries : (rate : ℕ) → 0 < rate → Corollaries (rules rate) (machine rate) positions

@@ -13,7 +13,7 @@ use Rattle.sponge.specs.Transcript.{Call, Call.squeeze, Reply, lent}
 use Rattle.sponge.specs.Runs as runs
 use Rattle.sponge.specs.Runs.{Machine, freshRun, perform}
 use Rattle.turboshake.specs.Published.{turboshake}
-use Rattle.turboshake.specs.Transcript.{limit, domainStatus, rules}
+use Rattle.turboshake.specs.Transcript.{messageLimit, outputLimit, domainStatus, rules}
 use Rattle.turboshake.specs.declared.Run.{Run}
 use Rattle.turboshake.specs.declared.Moved.{Moved}
 use Rattle.turboshake.specs.declared.TurboShake128.{TurboShake128}
@@ -25,18 +25,21 @@ use Rattle.turboshake.specs.declared.Answer256.{Answer256}
 -- it tells the bytes squeezed; lanes are not looked at
 unfoldable pub reachable : ℕ → ℕ → ℕ → ℕ → ℕ → Bool
 reachable rate position phase absorbed squeezed =
-    leb absorbed limit
+    leb absorbed messageLimit
     && cond (eqb phase 0) (eqb squeezed 0 && eqb position (positionAfter rate absorbed))
-    (eqb phase 1 && (leb squeezed limit && eqb position (positionAfter rate squeezed)))
+    (eqb phase 1 && (leb squeezed outputLimit && eqb position (positionAfter rate squeezed)))
 
--- what becomes of a sponge, and the test of status 5
+-- what becomes of a sponge, and the test of status 5. There is no customization phase: a call of one is refused, and so does nothing
 unfoldable pub machine : ℕ → Machine Sponge ℕ
 machine rate = record {
   fresh = fresh;
   absorb = λ n s p. absorbBytes permuted rate s p;
+  customize = λ n s p. s;
   finalize = λ n s d. pad permuted rate s d;
+  finish = λ n s. s;
   squeeze = squeezeBytes permuted rate;
   after = afterBytes permuted rate;
+  customized = λ s. 0;
   reachable = λ r. reachable rate (r .state .position) (r .phase) (r .absorbed) (r .squeezed);
 }
 
@@ -89,8 +92,8 @@ outputOf rate r out =
 unfoldable pub hashStatus : ℕ → ℕ → ℕ → ℕ
 hashStatus m d n =
     firstOf (domainStatus d)
-    (firstOf (cond (leb m limit) done inputTooLong)
-    (firstOf (cond (eqb n 0) badLength done) (cond (leb n limit) done outputTooLong)))
+    (firstOf (cond (leb m messageLimit) done inputTooLong)
+    (firstOf (cond (eqb n 0) badLength done) (cond (leb n outputLimit) done outputTooLong)))
 
 -- what the lent output holds after the call
 unfoldable pub hashOutput : ℕ → List ℕ → ℕ → List ℕ → List ℕ

@@ -6,8 +6,9 @@ ghost use Rattle.sponge.specs.Waiting.{positionAfter};
 ghost use Rattle.sponge.specs.Transcript.{Call};
 ghost use Rattle.turboshake.specs.Transcript.{domainStatus};
 ghost use Rattle.turboshake.specs.Model.{reachable, freshOf, runWith, answered, answerOf, outputOf, hashStatus, hashOutput};
-use crate::LIMIT;
+use crate::MESSAGE_LIMIT;
 use crate::Moved;
+use crate::OUTPUT_LIMIT;
 use crate::Run;
 use sponge::status;
 
@@ -31,7 +32,7 @@ fn is_reachable(rate: usize, position: usize, phase: u8, absorbed: u64, squeezed
     requires { ⌜ (0 < rate) × (rate ≤ 200) ⌝ }
     ensures { λ r. ⌜ r ≡ reachable rate position phase absorbed squeezed ⌝ }
 {
-    if LIMIT < absorbed {
+    if MESSAGE_LIMIT < absorbed {
         return false;
     }
     if phase == ABSORBING {
@@ -41,7 +42,7 @@ fn is_reachable(rate: usize, position: usize, phase: u8, absorbed: u64, squeezed
         return false;
     }
     if phase == SQUEEZING {
-        if squeezed <= LIMIT {
+        if squeezed <= OUTPUT_LIMIT {
             return position == position_after(rate, squeezed);
         }
     }
@@ -104,7 +105,7 @@ pub(crate) fn absorb(
         return refused(status::WRONG_PHASE, position, phase, absorbed, squeezed);
     }
     let total = absorbed + piece.len() as u64;
-    if LIMIT < total {
+    if MESSAGE_LIMIT < total {
         return refused(status::INPUT_TOO_LONG, position, phase, absorbed, squeezed);
     }
     let taken = sponge::absorb(lanes, position, rate, piece);
@@ -169,7 +170,7 @@ pub(crate) fn squeeze(
         return refused(status::WRONG_PHASE, position, phase, absorbed, squeezed);
     }
     let total = squeezed + out.len() as u64;
-    if LIMIT < total {
+    if OUTPUT_LIMIT < total {
         return refused(status::OUTPUT_TOO_LONG, position, phase, absorbed, squeezed);
     }
     let given = sponge::squeeze(lanes, position, rate, out);
@@ -189,13 +190,13 @@ fn hash_status(message: u64, domain: u8, asked: u64) -> u8
     if refusal != status::DONE {
         return refusal;
     }
-    if LIMIT < message {
+    if MESSAGE_LIMIT < message {
         return status::INPUT_TOO_LONG;
     }
     if asked == 0 {
         return status::BAD_LENGTH;
     }
-    if LIMIT < asked {
+    if OUTPUT_LIMIT < asked {
         return status::OUTPUT_TOO_LONG;
     }
     status::DONE

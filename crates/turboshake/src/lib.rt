@@ -9,8 +9,11 @@ ghost use Rattle.sponge.specs.Transcript.{Call};
 ghost use Rattle.turboshake.specs.Model.{freshOf, answer128, answer256, outputOf, hashStatus, hashOutput, hashAtStatus, hashAtOutput};
 use sponge::status;
 
-// The most bytes that are absorbed, and squeezed.
-pub const LIMIT: u64 = 4294967295;
+// The most bytes of a message.
+pub const MESSAGE_LIMIT: u64 = 17179869183;
+
+// The most bytes of output.
+pub const OUTPUT_LIMIT: u64 = 4294967295;
 
 // A run: document 01's fixed-size state with its place, phase (0 absorbing, 1 squeezing), bytes fed and bytes read.
 pub struct Run {
