@@ -4,12 +4,12 @@ use mathlib.Core.Path.{_≡_, refl, sym}
 use mathlib.Core.List.{List}
 use Prim.Native.Nat.{ℕ}
 use lib.ListN.{length}
-use Rattle.sponge.specs.Transcript.{Call, Call.squeeze, lent}
+use Rattle.sponge.specs.Transcript.{Call, Call.squeeze, Customization.upTo, lent}
 use Rattle.sponge.specs.Runs.{freshRun, perform}
-use Rattle.turboshake.specs.Transcript.{limit}
+use Rattle.turboshake.specs.Transcript.{messageLimit, outputLimit}
 use Rattle.kangarootwelve.specs.Published.{kt}
-use Rattle.kangarootwelve.specs.Transcript.{customizationStatus, rules}
-use Rattle.kangarootwelve.specs.Model.{machine, seen, held, freshOf, answerOf, outputOf, hashStatus, hashOutput}
+use Rattle.kangarootwelve.specs.Transcript.{customizationLimit, customizationStatus, rules}
+use Rattle.kangarootwelve.specs.Model.{Nodes, machine, seen, held, freshOf, answerOf, outputOf, hashStatus, hashOutput}
 use Rattle.kangarootwelve.specs.declared.Run.{Run}
 use Rattle.kangarootwelve.proofs.OneGo.{hash-written}
 
@@ -38,9 +38,18 @@ module _ (rate chaining : ℕ) where
   unfolding rules
   argument-is c = refl
 
-  pub limits-are : (rules rate chaining .inputLimit ≡ limit) × (rules rate chaining .outputLimit ≡ limit)
+  pub limits-are : (rules rate chaining .inputLimit ≡ messageLimit) × (rules rate chaining .outputLimit ≡ outputLimit)
   unfolding rules
   limits-are = (refl, refl)
+
+  pub customization-is : rules rate chaining .customization ≡ upTo customizationLimit (λ c. c)
+  unfolding rules
+  customization-is = refl
+
+  -- the customization bytes of a run are those that it counts
+  pub customized-is : (s : Nodes) → machine rate chaining .customized s ≡ s .customized
+  unfolding machine
+  customized-is s = refl
 
   pub output-published : (m c : List ℕ) (n : ℕ) → rules rate chaining .output m c n ≡ kt rate chaining m c n
   unfolding rules

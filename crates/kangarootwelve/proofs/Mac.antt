@@ -13,7 +13,7 @@ use lib.ListN.{length, drop, getD, drop-of-length-le}
 use lib.Seq.{drop-cons}
 use Rattle.sponge.specs.Status.{done, outputTooLong, badLength, firstOf}
 use Rattle.sponge.specs.Transcript.{lent}
-use Rattle.turboshake.specs.Transcript.{limit}
+use Rattle.turboshake.specs.Transcript.{messageLimit, outputLimit}
 use Rattle.kangarootwelve.specs.Published.{kt, hopmac}
 use Rattle.kangarootwelve.specs.Transcript.{customizationLimit, customizationStatus}
 use Rattle.kangarootwelve.specs.Model.{hashStatus, hashOutput}
@@ -22,41 +22,41 @@ use Rattle.kangarootwelve.proofs.OneGo.{hash-written}
 
 -- ---- the statuses
 
-pub mac-2 : (k m c n : ℕ) → limit < k → 2 ≡ macStatus k m c n
+pub mac-2 : (k m c n : ℕ) → messageLimit < k → 2 ≡ macStatus k m c n
 unfolding macStatus
-mac-2 k m c n e = rw (lt-leb k limit e)
+mac-2 k m c n e = rw (lt-leb k messageLimit e)
 
-pub mac-rest : (k m c n s : ℕ) → k ≤ limit → s ≡ hashStatus m c n → s ≡ macStatus k m c n
+pub mac-rest : (k m c n s : ℕ) → k ≤ messageLimit → s ≡ hashStatus m c n → s ≡ macStatus k m c n
 unfolding macStatus
-mac-rest k m c n s e f = rw (le-leb k limit e) f
+mac-rest k m c n s e f = rw (le-leb k messageLimit e) f
 
 module _ (k m c t : ℕ) where
-  pub check-key : limit < k → 2 ≡ checkStatus k m c t
+  pub check-key : messageLimit < k → 2 ≡ checkStatus k m c t
   unfolding checkStatus
-  check-key e = rw (lt-leb k limit e)
+  check-key e = rw (lt-leb k messageLimit e)
 
-  module _ (e : k ≤ limit) where
-    pub check-message : limit < m → 2 ≡ checkStatus k m c t
+  module _ (e : k ≤ messageLimit) where
+    pub check-message : messageLimit < m → 2 ≡ checkStatus k m c t
     unfolding checkStatus
-    check-message f = rw (le-leb k limit e, lt-leb m limit f)
+    check-message f = rw (le-leb k messageLimit e, lt-leb m messageLimit f)
 
-    module _ (f : m ≤ limit) where
+    module _ (f : m ≤ messageLimit) where
       pub check-4 : customizationLimit < c → 4 ≡ checkStatus k m c t
       unfolding checkStatus customizationStatus
-      check-4 g = rw (le-leb k limit e, le-leb m limit f, lt-leb c customizationLimit g)
+      check-4 g = rw (le-leb k messageLimit e, le-leb m messageLimit f, lt-leb c customizationLimit g)
 
       module _ (g : c ≤ customizationLimit) where
         pub check-empty : t ≡ 0 → 7 ≡ checkStatus k m c t
         unfolding checkStatus customizationStatus
-        check-empty h = rw (le-leb k limit e, le-leb m limit f, le-leb c customizationLimit g, eq-eqb t 0 h)
+        check-empty h = rw (le-leb k messageLimit e, le-leb m messageLimit f, le-leb c customizationLimit g, eq-eqb t 0 h)
 
         pub check-long : (t ≡ 0 → ⊥) → tagLimit < t → 7 ≡ checkStatus k m c t
         unfolding checkStatus customizationStatus
-        check-long h l = rw (le-leb k limit e, le-leb m limit f, le-leb c customizationLimit g, ne-eqb t 0 h, lt-leb t tagLimit l)
+        check-long h l = rw (le-leb k messageLimit e, le-leb m messageLimit f, le-leb c customizationLimit g, ne-eqb t 0 h, lt-leb t tagLimit l)
 
         pub check-0 : (t ≡ 0 → ⊥) → t ≤ tagLimit → 0 ≡ checkStatus k m c t
         unfolding checkStatus customizationStatus
-        check-0 h l = rw (le-leb k limit e, le-leb m limit f, le-leb c customizationLimit g, ne-eqb t 0 h, le-leb t tagLimit l)
+        check-0 h l = rw (le-leb k messageLimit e, le-leb m messageLimit f, le-leb c customizationLimit g, ne-eqb t 0 h, le-leb t tagLimit l)
 
 -- of two statuses in a row that are done, both are
 both : (a b : ℕ) → firstOf a b ≡ 0 → (a ≡ 0) × (b ≡ 0)
@@ -77,10 +77,10 @@ tag-fits t e = by (ℕ-discrete t 0) (decLe t 64)
 
 -- the status of n bytes asked
 abbrev asked : ℕ → ℕ
-asked n = firstOf (cond (eqb n 0) badLength done) (cond (leb n limit) done outputTooLong)
+asked n = firstOf (cond (eqb n 0) badLength done) (cond (leb n outputLimit) done outputTooLong)
 
 asked-done : (n : ℕ) → 0 < n → n ≤ 64 → asked n ≡ 0
-asked-done n p h = rw (ne-eqb n 0 (λ z. omega arith), le-leb n limit (omega arith))
+asked-done n p h = rw (ne-eqb n 0 (λ z. omega arith), le-leb n outputLimit (omega arith))
 
 -- a status is done exactly where its parts are
 hash-parts : (m c n : ℕ) → hashStatus m c n ≡ 0 → (inputStatus m ≡ 0) × (customizationStatus c ≡ 0) × (asked n ≡ 0)

@@ -16,7 +16,7 @@ use Rattle.sponge.specs.Model.{Sponge, fresh, absorbBytes, squeezeBytes, Outcom
 use Rattle.sponge.proofs.Waiting.{steps-append, steps-over}
 use Rattle.sponge.proofs.Valid.{fits-valid, squeeze-done, output-done}
 use Rattle.turboshake.specs.Published.{turboshake}
-use Rattle.turboshake.specs.Transcript.{limit}
+use Rattle.turboshake.specs.Transcript.{messageLimit, outputLimit}
 use Rattle.turboshake.specs.Model.{hashAtOutput}
 use Rattle.turboshake.proofs.Published.{squeeze-turboshake}
 use Rattle.turboshake.proofs.AtRate.{at-written}
@@ -31,33 +31,33 @@ use Rattle.kangarootwelve.proofs.Nodes.{fresh-is, absorb-in, absorbed-i
 -- ---- the status
 
 module _ (m c n : ℕ) where
-  pub hash-2 : limit < m → 2 ≡ hashStatus m c n
+  pub hash-2 : messageLimit < m → 2 ≡ hashStatus m c n
   unfolding hashStatus
-  hash-2 e = rw (lt-leb m limit e)
+  hash-2 e = rw (lt-leb m messageLimit e)
 
-  module _ (e : m ≤ limit) where
+  module _ (e : m ≤ messageLimit) where
     pub hash-4 : customizationLimit < c → 4 ≡ hashStatus m c n
     unfolding hashStatus customizationStatus
-    hash-4 f = rw (le-leb m limit e, lt-leb c customizationLimit f)
+    hash-4 f = rw (le-leb m messageLimit e, lt-leb c customizationLimit f)
 
     module _ (f : c ≤ customizationLimit) where
       pub hash-7 : n ≡ 0 → 7 ≡ hashStatus m c n
       unfolding hashStatus customizationStatus
-      hash-7 g = rw (le-leb m limit e, le-leb c customizationLimit f, eq-eqb n 0 g)
+      hash-7 g = rw (le-leb m messageLimit e, le-leb c customizationLimit f, eq-eqb n 0 g)
 
-      pub hash-6 : (n ≡ 0 → ⊥) → limit < n → 6 ≡ hashStatus m c n
+      pub hash-6 : (n ≡ 0 → ⊥) → outputLimit < n → 6 ≡ hashStatus m c n
       unfolding hashStatus customizationStatus
-      hash-6 g h = rw (le-leb m limit e, le-leb c customizationLimit f, ne-eqb n 0 g, lt-leb n limit h)
+      hash-6 g h = rw (le-leb m messageLimit e, le-leb c customizationLimit f, ne-eqb n 0 g, lt-leb n outputLimit h)
 
-      pub hash-0 : (n ≡ 0 → ⊥) → n ≤ limit → 0 ≡ hashStatus m c n
+      pub hash-0 : (n ≡ 0 → ⊥) → n ≤ outputLimit → 0 ≡ hashStatus m c n
       unfolding hashStatus customizationStatus
-      hash-0 g h = rw (le-leb m limit e, le-leb c customizationLimit f, ne-eqb n 0 g, le-leb n limit h)
+      hash-0 g h = rw (le-leb m messageLimit e, le-leb c customizationLimit f, ne-eqb n 0 g, le-leb n outputLimit h)
 
 -- a call that is done had lengths within the limits
-pub hash-fits : (m c n : ℕ) → hashStatus m c n ≡ 0 → (m ≤ limit) × (c ≤ customizationLimit)
-hash-fits m c n e = by (decLe m limit) (decLe c customizationLimit)
+pub hash-fits : (m c n : ℕ) → hashStatus m c n ≡ 0 → (m ≤ messageLimit) × (c ≤ customizationLimit)
+hash-fits m c n e = by (decLe m messageLimit) (decLe c customizationLimit)
   where
-    by : Dec (m ≤ limit) → Dec (c ≤ customizationLimit) → (m ≤ limit) × (c ≤ customizationLimit)
+    by : Dec (m ≤ messageLimit) → Dec (c ≤ customizationLimit) → (m ≤ messageLimit) × (c ≤ customizationLimit)
     by (no f) d = absurd (let z : 2 ≡ 0 = hash-2 m c n (omega arith) ∙ e in omega arith)
     by (yes f) (no g) = absurd (let z : 4 ≡ 0 = hash-4 m c n f (omega arith) ∙ e in omega arith)
     by (yes f) (yes g) = (f, g)
@@ -167,8 +167,10 @@ module _ (rate : ℕ) (pos : 0 < rate) (most : rate ≤ 200) where
         let e : List ℕ = c ++ lengthEncode (length c) in
         let some : 0 < length e = let l = encode-pos (length c) in rw length-append (omega arith) in
         let t : At Tree = record { value = endedChunks rate chaining n freshTree m; position = 0 } in
+        let rest : At Tree = absorbTree rate chaining t (drop (n * chunk) m) in
         ap (λ (x : At Tree). squeezeBytes permuted rate k (closeTree rate chaining (x .value)))
-        (sym (steps-append (endChunk rate chaining) (putByte rate) chunk t (drop (n * chunk) m) e)
+        (sym (steps-append (endChunk rate chaining) (putByte rate) chunk rest c (lengthEncode (length c)))
+        ∙ sym (steps-append (endChunk rate chaining) (putByte rate) chunk t (drop (n * chunk) m) e)
         ∙ sym (chunks-tree n freshTree m e h some)
         ∙ ap (absorbTree rate chaining (record { value = freshTree; position = 0 })) (sym (append-assoc m c (lengthEncode (length c)))))
         ∙ squeeze-kt rate chaining pos m c k

@@ -1,23 +1,24 @@
 -- Demand 3 for KT, over every list of calls from a fresh run, and what follows from it. One proof over the rate and the chaining
 -- length; the two strengths differ in two numbers.
 -- Assumes nothing.
-use mathlib.Core.Path.{_≡_, refl, _∙_}
-use mathlib.Core.List.{List, []}
+use mathlib.Core.Path.{_≡_, refl, ap, _∙_}
+use mathlib.Core.List.{List}
 use mathlib.Core.Bool.{Bool, true, false, cond}
 use Prim.Native.Nat.{ℕ, _<_}
+use native.Mathlib.Nat.{zero-add}
 use native.Mathlib.Omega.{arith}
 use lib.Dec.{leb}
-use lib.ListN.{length}
+use lib.ListN.{length, replicate, length-replicate}
 use Rattle.sponge.specs.Status.{unreachable}
-use Rattle.sponge.specs.Transcript.{Call}
-use Rattle.sponge.specs.Runs.{freshRun, perform, runOf}
-use Rattle.sponge.specs.Streaming.{history, Streaming, told}
+use Rattle.sponge.specs.Transcript.{Call, Phase, Phase.absorbing, Phase.customizing, Phase.squeezing, Transcript}
+use Rattle.sponge.specs.Runs.{Run, freshRun, perform, stateOf, runOf}
+use Rattle.sponge.specs.Streaming.{history, Streaming, told, ran}
 use Rattle.sponge.proofs.Corollaries as generic
 use Rattle.sponge.proofs.Corollaries.{Corollaries, history-held}
 use Rattle.sponge.proofs.Reachable.{Statuses}
-use Rattle.kangarootwelve.specs.Transcript.{customizationLimit, customizationStatus, rules}
-use Rattle.kangarootwelve.specs.Model.{machine, held, freshOf, answerOf, replyOf}
-use Rattle.kangarootwelve.proofs.Laws.{positions, due, shape, shaped, laws, stays}
+use Rattle.kangarootwelve.specs.Transcript.{customizationLimit, customizationStatus, customizedOf, rules}
+use Rattle.kangarootwelve.specs.Model.{Nodes, machine, held, freshOf, answerOf, replyOf}
+use Rattle.kangarootwelve.proofs.Laws.{positions, due, customization-taken, shape, shaped, laws, stays}
 
 -- no C answers 5
 no-five : (rate chaining : ℕ) (c : List ℕ) → rules rate chaining .argument c ≡ unreachable → ⊥
@@ -28,9 +29,28 @@ no-five rate chaining c e = by (leb (length c) customizationLimit) e
     by true e = omega arith
     by false e = omega arith
 
-pub statuses : (rate chaining : ℕ) → Statuses (rules rate chaining)
-unfolding rules customizationStatus
-statuses rate chaining = record { nothing-taken = refl; byte-taken = refl; piece-other = λ n e. omega arith; some = []; some-taken = refl; argument-other = no-five rate chaining }
+-- a C of any length within the limit
+pub statuses : (rate chaining : ℕ) → Statuses (rules rate chaining) (machine rate chaining)
+unfolding rules machine
+statuses rate chaining = record {
+  nothing-taken = refl;
+  byte-taken = refl;
+  piece-other = λ n e. omega arith;
+  some = λ m. replicate m 0;
+  some-taken = λ m l. rw (length-replicate {A = ℕ} m 0) (customization-taken m l);
+  some-counted = λ n s m l. length-replicate m 0;
+  argument-other = no-five rate chaining;
+}
+
+-- the run that a transcript tells of has the transcript's customization bytes
+pub told-customized : (rate chaining : ℕ) (t : Transcript (List ℕ)) → runOf (rules rate chaining) (machine rate chaining) t .state .customized ≡ customizedOf (t .phase)
+unfolding machine
+told-customized rate chaining t = by (t .absorbed) (t .phase) (t .squeezed)
+  where
+    by : (f : List ℕ) (h : Phase (List ℕ)) (n : ℕ) → stateOf (rules rate chaining) (machine rate chaining) f h n .customized ≡ customizedOf h
+    by f absorbing n = refl
+    by f (customizing c) n = zero-add (length c)
+    by f (squeezing c) n = refl
 
 module _ (rate chaining : ℕ) (pos : 0 < rate) where
   -- the list theorem at the published KT, calls in a row, refusals, and status 5 in both directions
@@ -41,6 +61,11 @@ module _ (rate chaining : ℕ) (pos : 0 < rate) where
 
   pub streaming : (cs : List (Call (List ℕ))) → Streaming (rules rate chaining) (machine rate chaining) cs
   streaming = corollaries .streaming
+
+  -- the third total after every list of calls is the length of the book's C
+  pub customized-told : (cs : List (Call (List ℕ)))
+      → ran (rules rate chaining) (machine rate chaining) cs .left .state .customized ≡ customizedOf (told (rules rate chaining) (machine rate chaining) cs .left .phase)
+  customized-told cs = ap (λ (r : Run Nodes). r .state .customized) (streaming cs .run) ∙ told-customized rate chaining (told (rules rate chaining) (machine rate chaining) cs .left)
 
   -- the list theorem on the code's own runs: `answerOf`, which the contracts cite, from `freshOf`
   pub streaming-code : (cs : List (Call (List ℕ)))

@@ -1,7 +1,7 @@
 -- What the contracts of private functions say: a tree and a run from lent lanes and numbers.
 -- Assumes nothing.
 use mathlib.Core.List.{List}
-use Prim.Native.Nat.{ℕ, zero, suc, _≤_}
+use Prim.Native.Nat.{ℕ, zero, suc, _+_, _≤_}
 use lib.ListN.{take, drop}
 use Rattle.sponge.specs.Waiting.{At, positionAfter, indexAfter}
 use Rattle.kangarootwelve.specs.Published.{chunk}
@@ -35,10 +35,10 @@ endedChunks rate chaining (suc n) t s = endedChunks rate chaining n (endedChunk 
 
 -- what a run holds beside its lanes, and where its next byte goes
 abbrev pub progressOf : Run → Progress
-progressOf r = record { node = r .node .position; leaf = r .leaf .position; phase = r .phase; absorbed = r .absorbed; squeezed = r .squeezed }
+progressOf r = record { node = r .node .position; leaf = r .leaf .position; phase = r .phase; absorbed = r .absorbed; customized = r .customized; squeezed = r .squeezed }
 
 abbrev pub placeOf : Progress → Place
-placeOf p = record { node = p .node; leaf = p .leaf; index = indexAfter chunk (p .absorbed); position = positionAfter chunk (p .absorbed) }
+placeOf p = record { node = p .node; leaf = p .leaf; index = indexAfter chunk (p .absorbed + p .customized); position = positionAfter chunk (p .absorbed + p .customized) }
 
 -- a run and an answer from their parts
 abbrev pub runWith : List ℕ → List ℕ → Progress → Run
@@ -47,6 +47,7 @@ runWith final leaf p = record {
   leaf = record { lanes = leaf; position = p .leaf };
   phase = p .phase;
   absorbed = p .absorbed;
+  customized = p .customized;
   squeezed = p .squeezed;
 }
 

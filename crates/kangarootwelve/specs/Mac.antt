@@ -7,7 +7,7 @@ use lib.ListN.{length}
 use lib.Dec.{eqb, leb}
 use Rattle.sponge.specs.Status.{done, inputTooLong, badLength, firstOf}
 use Rattle.sponge.specs.Transcript.{lent}
-use Rattle.turboshake.specs.Transcript.{limit}
+use Rattle.turboshake.specs.Transcript.{messageLimit}
 use Rattle.kangarootwelve.specs.Published.{hopmac}
 use Rattle.kangarootwelve.specs.Transcript.{customizationStatus}
 use Rattle.kangarootwelve.specs.Model.{hashStatus}
@@ -15,7 +15,7 @@ use Rattle.kangarootwelve.specs.declared.Verdict.{Verdict}
 
 -- the status of a key, or a message, of n bytes
 abbrev pub inputStatus : ℕ → ℕ
-inputStatus n = cond (leb n limit) done inputTooLong
+inputStatus n = cond (leb n messageLimit) done inputTooLong
 
 -- ---- the tag in one go
 

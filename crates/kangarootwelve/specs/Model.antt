@@ -12,10 +12,10 @@ use Rattle.sponge.specs.Status.{done, inputTooLong, outputTooLong, badLength, f
 use Rattle.sponge.specs.Transcript.{Call, Call.squeeze, Reply, lent}
 use Rattle.sponge.specs.Runs as runs
 use Rattle.sponge.specs.Runs.{Machine, freshRun, perform}
-use Rattle.turboshake.specs.Transcript.{limit}
+use Rattle.turboshake.specs.Transcript.{messageLimit, outputLimit}
 use Rattle.kangarootwelve.specs.Published.{lengthEncode, chunk, kt}
-use Rattle.kangarootwelve.specs.Transcript.{customizationStatus, rules}
-use Rattle.kangarootwelve.specs.Tree.{Tree, absorbTree, finalizeTree}
+use Rattle.kangarootwelve.specs.Transcript.{customizationLimit, customizationStatus, rules}
+use Rattle.kangarootwelve.specs.Tree.{Tree, absorbTree, finishTree, finalizeTree}
 use Rattle.kangarootwelve.specs.declared.Run.{Run}
 use Rattle.kangarootwelve.specs.declared.Kt128.{Kt128}
 use Rattle.kangarootwelve.specs.declared.Answer128.{Answer128}
@@ -23,13 +23,14 @@ use Rattle.kangarootwelve.specs.declared.Kt256.{Kt256}
 use Rattle.kangarootwelve.specs.declared.Answer256.{Answer256}
 use Rattle.kangarootwelve.specs.declared.LengthEncoding.{LengthEncoding}
 
--- the two sponges of a run
+-- the two sponges of a run, and its customization bytes, the third total
 pub record Nodes : Type 0 where
   pub final : Sponge
   pub leaf : Sponge
+  pub customized : ℕ
 
-abbrev pub nodesOf : Tree → Nodes
-nodesOf t = record { final = t .final; leaf = t .leaf }
+abbrev pub nodesOf : Tree → ℕ → Nodes
+nodesOf t n = record { final = t .final; leaf = t .leaf; customized = n }
 
 -- the tree after n bytes of S: the chunk in hand and the position in it are told by n
 abbrev pub treeAt : ℕ → Nodes → At Tree
@@ -46,30 +47,34 @@ abbrev pub leafCount : ℕ → ℕ → ℕ
 leafCount zero o = 0
 leafCount (suc k) o = o
 
--- the positions due after n bytes of M
+-- the positions due after n bytes of S
 abbrev pub finalDue : ℕ → ℕ → ℕ → ℕ
 finalDue rate chaining n = positionAfter rate (finalCount chaining (indexAfter chunk n) (positionAfter chunk n))
 
 abbrev pub leafDue : ℕ → ℕ → ℕ
 leafDue rate n = positionAfter rate (leafCount (indexAfter chunk n) (positionAfter chunk n))
 
--- what a run reached from a fresh one has: in phase 0 nothing is squeezed and the positions tell the bytes absorbed; in phase 1
--- the final node's tells the bytes squeezed, and the leaf is fresh again; lanes are not looked at
-unfoldable pub reachable : ℕ → ℕ → ℕ → ℕ → ℕ → ℕ → ℕ → Bool
-reachable rate chaining finalPosition leafPosition phase absorbed squeezed =
-    leb absorbed limit
-    && cond (eqb phase 0) (eqb squeezed 0 && (eqb finalPosition (finalDue rate chaining absorbed) && eqb leafPosition (leafDue rate absorbed)))
-    (eqb phase 1 && (leb squeezed limit && (eqb finalPosition (positionAfter rate squeezed) && eqb leafPosition 0)))
+-- what a run reached from a fresh one has: in phase 0 no customization byte; in phases 0 and 2 nothing is squeezed and the positions tell
+-- the bytes of M and C; in phase 1 the final node's tells the bytes squeezed, and the leaf is fresh again; lanes are not looked at
+unfoldable pub reachable : ℕ → ℕ → ℕ → ℕ → ℕ → ℕ → ℕ → ℕ → Bool
+reachable rate chaining finalPosition leafPosition phase absorbed customized squeezed =
+    leb absorbed messageLimit
+    && (leb customized (cond (eqb phase 0) 0 customizationLimit)
+    && cond (eqb phase 1) (leb squeezed outputLimit && (eqb finalPosition (positionAfter rate squeezed) && eqb leafPosition 0))
+    (leb phase 2 && (eqb squeezed 0 && (eqb finalPosition (finalDue rate chaining (absorbed + customized)) && eqb leafPosition (leafDue rate (absorbed + customized))))))
 
--- what becomes of the two sponges, and the test of status 5
+-- what becomes of the two sponges, and the test of status 5; the customization bytes follow the n of M
 unfoldable pub machine : ℕ → ℕ → Machine Nodes (List ℕ)
 machine rate chaining = record {
-  fresh = record { final = fresh; leaf = fresh };
-  absorb = λ n s p. nodesOf (absorbTree rate chaining (treeAt n s) p .value);
-  finalize = λ n s c. record { final = finalizeTree rate chaining (treeAt n s) c; leaf = fresh };
+  fresh = record { final = fresh; leaf = fresh; customized = 0 };
+  absorb = λ n s p. nodesOf (absorbTree rate chaining (treeAt n s) p .value) (s .customized);
+  customize = λ n s p. nodesOf (absorbTree rate chaining (treeAt (n + s .customized) s) p .value) (s .customized + length p);
+  finalize = λ n s c. record { final = finalizeTree rate chaining (treeAt n s) c; leaf = fresh; customized = length c };
+  finish = λ n s. record { final = finishTree rate chaining (treeAt (n + s .customized) s) (s .customized); leaf = fresh; customized = s .customized };
   squeeze = λ k s. squeezeBytes permuted rate k (s .final);
-  after = λ k s. record { final = afterBytes permuted rate k (s .final); leaf = s .leaf };
-  reachable = λ r. reachable rate chaining (r .state .final .position) (r .state .leaf .position) (r .phase) (r .absorbed) (r .squeezed);
+  after = λ k s. record { final = afterBytes permuted rate k (s .final); leaf = s .leaf; customized = s .customized };
+  customized = λ s. s .customized;
+  reachable = λ r. reachable rate chaining (r .state .final .position) (r .state .leaf .position) (r .phase) (r .absorbed) (r .state .customized) (r .squeezed);
 }
 
 -- ---- the code's structs
@@ -77,7 +82,11 @@ machine rate chaining = record {
 -- a run as the theorem sees it, and back
 abbrev pub seen : Run → runs.Run Nodes
 seen r = record {
-  state = record { final = record { value = r .node .lanes; position = r .node .position }; leaf = record { value = r .leaf .lanes; position = r .leaf .position } };
+  state = record {
+    final = record { value = r .node .lanes; position = r .node .position };
+    leaf = record { value = r .leaf .lanes; position = r .leaf .position };
+    customized = r .customized;
+  };
   phase = r .phase;
   absorbed = r .absorbed;
   squeezed = r .squeezed;
@@ -89,6 +98,7 @@ held r = record {
   leaf = record { lanes = r .state .leaf .value; position = r .state .leaf .position };
   phase = r .phase;
   absorbed = r .absorbed;
+  customized = r .state .customized;
   squeezed = r .squeezed;
 }
 
@@ -132,9 +142,9 @@ outputOf rate chaining r out =
 -- the status of a message of m bytes, a customization string of c bytes, and n bytes asked: 2, 4, 7, 6 in this order
 unfoldable pub hashStatus : ℕ → ℕ → ℕ → ℕ
 hashStatus m c n =
-    firstOf (cond (leb m limit) done inputTooLong)
+    firstOf (cond (leb m messageLimit) done inputTooLong)
     (firstOf (customizationStatus c)
-    (firstOf (cond (eqb n 0) badLength done) (cond (leb n limit) done outputTooLong)))
+    (firstOf (cond (eqb n 0) badLength done) (cond (leb n outputLimit) done outputTooLong)))
 
 -- what the lent output holds after the call
 unfoldable pub hashOutput : ℕ → ℕ → List ℕ → List ℕ → List ℕ → List ℕ

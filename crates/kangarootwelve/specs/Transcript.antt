@@ -6,18 +6,32 @@ use Prim.Native.Nat.{ℕ}
 use lib.ListN.{length}
 use lib.Dec.{leb}
 use Rattle.sponge.specs.Status.{done, customizationTooLong}
-use Rattle.sponge.specs.Transcript.{Rules}
-use Rattle.turboshake.specs.Transcript.{limit}
+use Rattle.sponge.specs.Transcript.{Phase, Phase.absorbing, Phase.customizing, Phase.squeezing, Customization.upTo, Rules}
+use Rattle.turboshake.specs.Transcript.{messageLimit, outputLimit}
 use Rattle.kangarootwelve.specs.Published.{kt}
 
--- the most bytes of a customization string
+-- the most bytes of a customization string, 2^24 - 1 (request Q-2)
 abbrev pub customizationLimit : ℕ
-customizationLimit = 65535
+customizationLimit = 16777215
 
 -- the status of a customization string of n bytes
 unfoldable pub customizationStatus : ℕ → ℕ
 customizationStatus n = cond (leb n customizationLimit) done customizationTooLong
 
--- the published function, the status of C, and the limits; any piece is taken; the bytes absorbed are those of M alone
+-- the third total at a phase of the transcript: the bytes of C so far, and once closed those of all of it
+abbrev pub customizedOf : Phase (List ℕ) → ℕ
+customizedOf absorbing = 0
+customizedOf (customizing c) = length c
+customizedOf (squeezing c) = length c
+
+-- the published function, the status of C, and the limits; any piece is taken; C is taken in pieces too, and is what they are, joined; the
+-- bytes absorbed are those of M alone
 unfoldable pub rules : ℕ → ℕ → Rules (List ℕ)
-rules rate chaining = record { output = kt rate chaining; argument = λ c. customizationStatus (length c); piece = λ n. done; inputLimit = limit; outputLimit = limit }
+rules rate chaining = record {
+  output = kt rate chaining;
+  argument = λ c. customizationStatus (length c);
+  piece = λ n. done;
+  customization = upTo customizationLimit (λ c. c);
+  inputLimit = messageLimit;
+  outputLimit = outputLimit;
+}

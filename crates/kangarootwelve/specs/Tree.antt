@@ -1,5 +1,5 @@
 -- KT byte by byte over two sponges: the final node, and the leaf in hand. A full chunk is ended when the next one's first byte
--- arrives, or at the finalize; so a second chunk is opened only by its first byte.
+-- arrives, or at the close; so a second chunk is opened only by its first byte.
 -- Assumes nothing.
 use mathlib.Core.List.{List, [], _∷_, _++_}
 use Prim.Native.Nat.{ℕ, zero, suc}
@@ -47,6 +47,10 @@ module _ (rate chaining : ℕ) where
   abbrev pub closeTree : Tree → Sponge
   closeTree t = closeTo (t .index) (t .final) (t .leaf)
 
-  -- C and its length follow the message, and the tree is closed
+  -- M and C are in, C of n bytes: its length follows, and the tree is closed
+  abbrev pub finishTree : At Tree → ℕ → Sponge
+  finishTree t n = closeTree (absorbTree t (lengthEncode n) .value)
+
+  -- M is in: C and its length follow, and the tree is closed
   abbrev pub finalizeTree : At Tree → List ℕ → Sponge
-  finalizeTree t c = closeTree (absorbTree t (c ++ lengthEncode (length c)) .value)
+  finalizeTree t c = finishTree (absorbTree t c) (length c)

@@ -11,12 +11,12 @@ use crate::TAG_LIMIT;
 use crate::Verdict;
 use crate::one_go;
 use sponge::status;
-use turboshake::LIMIT;
+use turboshake::MESSAGE_LIMIT;
 
 fn mac_status(key: u64, message: u64, customization: u64, asked: u64) -> u8
     ensures { λ r. ⌜ r ≡ macStatus key message customization asked ⌝ }
 {
-    if LIMIT < key {
+    if MESSAGE_LIMIT < key {
         return status::INPUT_TOO_LONG;
     }
     one_go::hash_status(message, customization, asked)
@@ -77,10 +77,10 @@ pub(crate) fn tag(
 fn check_status(key: u64, message: u64, customization: u64, presented: u64) -> u8
     ensures { λ r. ⌜ r ≡ checkStatus key message customization presented ⌝ }
 {
-    if LIMIT < key {
+    if MESSAGE_LIMIT < key {
         return status::INPUT_TOO_LONG;
     }
-    if LIMIT < message {
+    if MESSAGE_LIMIT < message {
         return status::INPUT_TOO_LONG;
     }
     if CUSTOMIZATION_LIMIT < customization {

@@ -13,12 +13,13 @@ use crate::CUSTOMIZATION_LIMIT;
 use crate::Place;
 use crate::tree;
 use sponge::status;
-use turboshake::LIMIT;
+use turboshake::MESSAGE_LIMIT;
+use turboshake::OUTPUT_LIMIT;
 
 pub(crate) fn hash_status(message: u64, customization: u64, asked: u64) -> u8
     ensures { λ r. ⌜ r ≡ hashStatus message customization asked ⌝ }
 {
-    if LIMIT < message {
+    if MESSAGE_LIMIT < message {
         return status::INPUT_TOO_LONG;
     }
     if CUSTOMIZATION_LIMIT < customization {
@@ -27,7 +28,7 @@ pub(crate) fn hash_status(message: u64, customization: u64, asked: u64) -> u8
     if asked == 0 {
         return status::BAD_LENGTH;
     }
-    if LIMIT < asked {
+    if OUTPUT_LIMIT < asked {
         return status::OUTPUT_TOO_LONG;
     }
     status::DONE

@@ -7,7 +7,7 @@ ghost use Rattle.keccak.specs.Permutation.{permuted};
 ghost use Rattle.sponge.specs.Waiting.{ready};
 ghost use Rattle.sponge.specs.Model.{absorbBytes, pad, squeezeBytes};
 ghost use Rattle.kangarootwelve.specs.Published.{chunk, intermediateDomain};
-ghost use Rattle.kangarootwelve.specs.Tree.{putTo, endChunk, absorbTree, closeTo, finalizeTree};
+ghost use Rattle.kangarootwelve.specs.Tree.{putTo, endChunk, absorbTree, closeTo, finishTree, finalizeTree};
 ghost use Rattle.kangarootwelve.specs.Inside.{treeOf, Fits};
 use crate::Place;
 use crate::encode;
@@ -170,6 +170,24 @@ fn close(rate: usize, chaining: usize, node: &mut [u64; 25], leaf: &mut [u64; 25
     let padded = sponge::pad(node, ended.position, rate, FINAL_NODE);
 }
 
+// The length of the customization string follows it, and the tree is closed.
+pub(crate) fn finish(
+    rate: usize,
+    chaining: usize,
+    node: &mut [u64; 25],
+    leaf: &mut [u64; 25],
+    at: Place,
+    length: u64,
+)
+    requires { ⌜ (0 < rate) × (rate ≤ 200) × (chaining ≤ 64) × Fits rate (treeOf (now node) (now leaf) at) × (at .index + 9 < 2 ^ 63) ⌝ }
+    ensures { λ _. ⌜ record { value = now (node .exit); position = 0 } ≡ finishTree rate chaining (treeOf (now (node .entry)) (now (leaf .entry)) at) length ⌝ }
+{
+    let mut encoded = [0u8; 9];
+    let start = encode::length_encode(length, &mut encoded);
+    let whole = absorb(rate, chaining, node, leaf, at, &encoded[start..9]);
+    close(rate, chaining, node, leaf, whole);
+}
+
 // The customization string and its length follow the message, and the tree is closed.
 pub(crate) fn finalize(
     rate: usize,
@@ -183,8 +201,12 @@ pub(crate) fn finalize(
     ensures { λ _. ⌜ record { value = now (node .exit); position = 0 } ≡ finalizeTree rate chaining (treeOf (now (node .entry)) (now (leaf .entry)) at) (now (customization .entry)) ⌝ }
 {
     let named = absorb(rate, chaining, node, leaf, at, customization);
-    let mut encoded = [0u8; 9];
-    let start = encode::length_encode(customization.len() as u64, &mut encoded);
-    let whole = absorb(rate, chaining, node, leaf, named, &encoded[start..9]);
-    close(rate, chaining, node, leaf, whole);
+    finish(
+        rate,
+        chaining,
+        node,
+        leaf,
+        named,
+        customization.len() as u64,
+    );
 }

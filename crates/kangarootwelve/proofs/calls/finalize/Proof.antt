@@ -1,25 +1,30 @@
-use Prim.Native.Nat.{_≤_}
+use Prim.Native.Nat.{_≤_, _+_}
 use native.Mathlib.Omega.{arith}
-use Rattle.kangarootwelve.specs.Tree.{finalizeTree}
-use Rattle.kangarootwelve.specs.declared.Place.{Place}
 use mathlib.Core.Path.{_≡_, ap, sym, _∙_, subst}
 use mathlib.Core.Bool.{true, false}
 use borrow.Author.Tests.{not-true, not-false}
+use lib.ListN.{replicate}
 use Rattle.sponge.specs.Transcript.{Call.finalize}
 use Rattle.sponge.proofs.Answers.{status-5, finalize-3, finalize-argument}
 use Rattle.kangarootwelve.specs.Transcript.{rules}
+use Rattle.kangarootwelve.specs.Tree.{finalizeTree}
 use Rattle.kangarootwelve.specs.Model.{reachable, machine, seen}
 use Rattle.kangarootwelve.specs.Inside.{Fits, treeOf, runWith, answered}
 use Rattle.kangarootwelve.specs.declared.Run.{Run}
+use Rattle.kangarootwelve.specs.declared.Place.{Place}
 use Rattle.kangarootwelve.specs.declared.Moved.{Moved}
-use Rattle.kangarootwelve.proofs.Cases.{passes, fits, refused-is, customization-4, customization-0, place-fits, place-index, finalize-answer}
+use Rattle.kangarootwelve.specs.declared.Progress.{Progress}
+use Rattle.kangarootwelve.proofs.Cases.{passes, Passed, fits, not-customized, refused-is, customization-4, customization-0, place-fits, place-index, finalize-answer}
 use borrow.Author.Needs.{needs}
 use Rattle.kangarootwelve.proofs.calls.finalize.Statement.{statement}
 use Rattle.kangarootwelve.proofs.calls.finalize.Tie as tie
 
 -- past the first test the run is one that 5 does not refuse
-was : (c : tie.Else1) → let a = c .before .before .before .args in reachable (a .rate) (a .chaining) (a .at .node) (a .at .leaf) (a .at .phase) (a .at .absorbed) (a .at .squeezed) ≡ true
+was : (c : tie.Else1) → let a = c .before .before .before .args in reachable (a .rate) (a .chaining) (a .at .node) (a .at .leaf) (a .at .phase) (a .at .absorbed) (a .at .customized) (a .at .squeezed) ≡ true
 was c = sym (c .before .is-reachable .ensures) ∙ not-false _ (c .if1 .left)
+
+passed : (c : tie.Else1) → let a = c .before .before .before .args in Passed (a .rate) (a .chaining) (runWith (a .node .now) (a .leaf .now) (a .at))
+passed c = let a = c .before .before .before in fits (a .args .rate) (a .args .chaining) (runWith (a .args .node .now) (a .args .leaf .now) (a .args .at)) (a .pre .0) (was c)
 
 is-reachable-requires : tie.Need-is-reachable-requires
 is-reachable-requires c κs = search needs
@@ -55,26 +60,32 @@ returns-3 c =
     ap (λ (m : Moved). answered m (a .node .now) (a .leaf .now)) (c .refused3 .ensures) ∙ refused-is (a .rate) (a .chaining) r (finalize (a .customization .now)) 3 e
 
 place-requires : tie.Need-place-requires
-place-requires c κs = search needs
+place-requires c κs = let h = passed (c .before .before .before .before .before) in omega (arith, h .absorbed-fits, h .customized-fits)
 
 finalize-requires : tie.Need-finalize-requires
 finalize-requires c κs =
     let a = c .before .before .before .before .before .before .before .before .before in
-    let h = fits (a .args .rate) (a .args .chaining) (runWith (a .args .node .now) (a .args .leaf .now) (a .args .at)) (a .pre .0) (was (c .before .before .before .before .before .before)) in
-    let few : c .place .result .index ≤ a .args .at .absorbed = rw (c .place .ensures) (place-index (a .args .rate) (a .args .chaining) (a .args .node .now) (a .args .leaf .now) (a .args .at)) in (
+    let h = passed (c .before .before .before .before .before .before) in
+    let few : c .place .result .index ≤ a .args .at .absorbed + a .args .at .customized = rw (c .place .ensures) (place-index (a .args .rate) (a .args .chaining) (a .args .node .now) (a .args .leaf .now) (a .args .at)) in (
       a .pre .0,
       a .pre .1,
       a .pre .2,
-      subst (λ (p : Place). Fits (a .args .rate) (treeOf (a .args .node .now) (a .args .leaf .now) p)) (sym (c .place .ensures)) (place-fits (a .args .rate) (a .args .chaining) (a .args .node .now) (a .args .leaf .now) (a .args .at) (h .0) (h .1)),
-      omega arith,
+      subst (λ (p : Place). Fits (a .args .rate) (treeOf (a .args .node .now) (a .args .leaf .now) p)) (sym (c .place .ensures)) (place-fits (a .args .rate) (a .args .chaining) (a .args .node .now) (a .args .leaf .now) (a .args .at) (h .node-fits) (h .leaf-fits)),
+      omega (arith, few, h .absorbed-fits, h .customized-fits, c .before .before .before .if3 .left),
     )
+
+closed-requires : tie.Need-closed-requires
+closed-requires c κs = search needs
 
 returns-4 : tie.Need-returns-4
 returns-4 c =
-    let a = c .before .before .before .before .before .before .before .before .before .before .args in
+    let a = c .before .before .before .before .before .before .before .before .before .before .before .args in
     let r : Run = runWith (a .node .now) (a .leaf .now) (a .at) in
-    let e = finalize-argument (rules (a .rate) (a .chaining)) (machine (a .rate) (a .chaining)) (seen r) (passes (a .rate) (a .chaining) r true (was (c .before .before .before .before .before .before .before))) (a .customization .now) (c .before .before .before .before .before .if2 .left) ∙ customization-0 (a .rate) (a .chaining) (a .customization .now) (c .before .before .before .before .if3 .left) in
-    finalize-answer (a .rate) (a .chaining) (a .node .now) (a .leaf .now) (a .at) (a .customization .now) (c .finalize .last .1 .1 .0) (c .finalize .ensures ∙ ap (λ (p : Place). finalizeTree (a .rate) (a .chaining) (treeOf (a .node .now) (a .leaf .now) p) (a .customization .now)) (c .before .place .ensures)) e
+    let e = finalize-argument (rules (a .rate) (a .chaining)) (machine (a .rate) (a .chaining)) (seen r) (passes (a .rate) (a .chaining) r true (was (c .before .before .before .before .before .before .before .before))) (a .customization .now) (c .before .before .before .before .before .before .if2 .left) ∙ customization-0 (a .rate) (a .chaining) (a .customization .now) (c .before .before .before .before .before .if3 .left) in
+    ap (λ (p : Progress). answered (record { at = p; status = 0 }) (c .before .finalize .last .1 .1 .0) (replicate 25 0)) (c .closed .ensures)
+    ∙ finalize-answer (a .rate) (a .chaining) (a .node .now) (a .leaf .now) (a .at) (a .customization .now) (c .before .finalize .last .1 .1 .0)
+    (not-customized (a .rate) (a .chaining) r (was (c .before .before .before .before .before .before .before .before)) (c .before .before .before .before .before .before .if2 .left))
+    (c .before .finalize .ensures ∙ ap (λ (p : Place). finalizeTree (a .rate) (a .chaining) (treeOf (a .node .now) (a .leaf .now) p) (a .customization .now)) (c .before .before .place .ensures)) e
 
 pub finalize-spec : {M : Type 1} → statement M
 finalize-spec =
@@ -89,4 +100,5 @@ finalize-spec =
     returns-3
     place-requires
     finalize-requires
+    closed-requires
     returns-4)

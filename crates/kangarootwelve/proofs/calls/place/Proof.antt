@@ -3,6 +3,9 @@ use borrow.Author.Needs.{needs}
 use Rattle.kangarootwelve.proofs.calls.place.Statement.{statement}
 use Rattle.kangarootwelve.proofs.calls.place.Tie as tie
 
+add-total : tie.Need-add-total
+add-total c = search needs
+
 index-after-requires : tie.Need-index-after-requires
 index-after-requires c κs = search needs
 
@@ -13,4 +16,4 @@ returns : tie.Need-returns
 returns c = rw (← c .before .index-after .ensures, c .position-after .ensures, chunk-is)
 
 pub place-spec : {M : Type 1} → statement M
-place-spec = tie.close (tie.spec index-after-requires position-after-requires returns)
+place-spec = tie.close (tie.spec add-total index-after-requires position-after-requires returns)

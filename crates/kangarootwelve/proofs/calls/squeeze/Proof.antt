@@ -17,7 +17,7 @@ use Rattle.kangarootwelve.proofs.calls.squeeze.Statement.{statement}
 use Rattle.kangarootwelve.proofs.calls.squeeze.Tie as tie
 
 -- past the first test the run is one that 5 does not refuse
-was : (c : tie.Else1) → let a = c .before .before .before .args in reachable (a .rate) (a .chaining) (a .at .node) (a .at .leaf) (a .at .phase) (a .at .absorbed) (a .at .squeezed) ≡ true
+was : (c : tie.Else1) → let a = c .before .before .before .args in reachable (a .rate) (a .chaining) (a .at .node) (a .at .leaf) (a .at .phase) (a .at .absorbed) (a .at .customized) (a .at .squeezed) ≡ true
 was c = sym (c .before .is-reachable .ensures) ∙ not-false _ (c .if1 .left)
 
 is-reachable-requires : tie.Need-is-reachable-requires
@@ -55,7 +55,7 @@ add-total : tie.Need-add-total
 add-total c =
     let a = c .before .before .before .before .before .before in
     let h = fits (a .args .rate) (a .args .chaining) (runWith (a .args .node .now) [] (a .args .at)) (a .pre .0) (was (c .before .before .before)) in
-    omega arith
+    omega (arith, h .squeezed-fits)
 
 refused-requires-3 : tie.Need-refused-requires-3
 refused-requires-3 c κs = search needs
@@ -87,12 +87,12 @@ returns-4 c =
     let h = fits (a .rate) (a .chaining) (runWith (a .node .now) [] (a .at)) (b .pre .0) (was (c .before .before .before .before .before .before .before .before .before)) in (
       λ leaf.
           let r : Run = runWith (a .node .now) leaf (a .at) in
-          squeeze-answer (a .rate) (a .chaining) (a .node .now) leaf (a .at) (b .pre .0) (b .pre .1) (h .0) (length (a .out .now))
+          squeeze-answer (a .rate) (a .chaining) (a .node .now) leaf (a .at) (b .pre .0) (b .pre .1) (h .node-fits) (length (a .out .now))
           (record { status = s .result .status; state = record { value = s .last .0; position = s .result .position } }) (s .ensures .0)
           (squeeze-0 (rules (a .rate) (a .chaining)) (machine (a .rate) (a .chaining)) (seen r) (passes (a .rate) (a .chaining) r true (was (c .before .before .before .before .before .before .before .before .before))) (length (a .out .now)) (c .before .before .before .before .before .before .before .if2 .left) (c .before .before .before .before .before .if3 .left)),
       λ leaf.
           let r : Run = runWith (a .node .now) leaf (a .at) in
-          s .ensures .1 ∙ squeeze-written (a .rate) (a .chaining) (a .node .now) leaf (a .at) (b .pre .0) (b .pre .1) (h .0) (a .out .now)
+          s .ensures .1 ∙ squeeze-written (a .rate) (a .chaining) (a .node .now) leaf (a .at) (b .pre .0) (b .pre .1) (h .node-fits) (a .out .now)
           (squeeze-0 (rules (a .rate) (a .chaining)) (machine (a .rate) (a .chaining)) (seen r) (passes (a .rate) (a .chaining) r true (was (c .before .before .before .before .before .before .before .before .before))) (length (a .out .now)) (c .before .before .before .before .before .before .before .if2 .left) (c .before .before .before .before .before .if3 .left)),
     )
 
