@@ -5,12 +5,12 @@ use Prim.Native.Nat.{ℕ, _≤_, _<_}
 use borrow.Author.Tests.{le-leb, lt-leb}
 use lib.ListN.{length}
 use Rattle.sponge.specs.Status.{firstOf}
-use Rattle.sponge.specs.Transcript.{Call, Call.absorb, Call.finalize, Call.squeeze, Reply, lent}
+use Rattle.sponge.specs.Transcript.{Call, Call.absorb, Call.squeeze, Reply, lent}
 use Rattle.sponge.specs.Runs as runs
 use Rattle.sponge.specs.Runs.{perform}
 use Rattle.sponge.proofs.Joining.{Stays}
 use Rattle.sponge.proofs.Both as both
-use Rattle.sponge.proofs.PieceStatus.{finalize-same, squeeze-same, absorb-same, absorb-other}
+use Rattle.sponge.proofs.PieceStatus.{Agree, perform-same, absorb-other}
 use Rattle.kangarootwelve.specs.Transcript as kt-transcript
 use Rattle.kangarootwelve.specs.Model as kt
 use Rattle.kangarootwelve.specs.Model.{Nodes, machine, seen, held}
@@ -55,24 +55,20 @@ module _ (r : Run) where
   same-answer c e =
       ap asDay (answer-is 168 32 r (framedCall c)) ∙ ap (λ (y : Reply (runs.Run Nodes)). record { journal = dayOf (y .left); status = y .status }) e
 
+  -- any call but the append of a long event
+  pub call-answer : (c : Call (List ℕ)) → Agree (kt-transcript.rules 168 32) (λ n. ownStatus c) (framedCall c)
+      → asDay (kt.answerOf 168 32 r (framedCall c)) ≡ answerOf (record { run = r }) c
+  unfolding performed rulesAt
+  call-answer c e = same-answer c (perform-same (kt-transcript.rules 168 32) (machine 168 32) (λ n. ownStatus c) (seen r) (framedCall c) e)
+
   pub short-answer : (e : List ℕ) → length e ≤ eventLimit → asDay (kt.answerOf 168 32 r (absorb (framed e))) ≡ answerOf (record { run = r }) (absorb e)
-  unfolding performed rulesAt
-  short-answer e h =
-      same-answer (absorb e) (absorb-same (kt-transcript.rules 168 32) (machine 168 32) (λ n. ownStatus (absorb e)) (seen r) (framed e) (piece-taken 168 32 (length (framed e))) (event-0 (length e) h))
-
-  pub finalize-answer : (c : List ℕ) → asDay (kt.answerOf 168 32 r (finalize c)) ≡ answerOf (record { run = r }) (finalize c)
-  unfolding performed rulesAt
-  finalize-answer c = same-answer (finalize c) (finalize-same (kt-transcript.rules 168 32) (machine 168 32) (λ n. ownStatus (finalize c)) (seen r) c)
-
-  pub squeeze-answer : (k : ℕ) → asDay (kt.answerOf 168 32 r (squeeze k)) ≡ answerOf (record { run = r }) (squeeze k)
-  unfolding performed rulesAt
-  squeeze-answer k = same-answer (squeeze k) (squeeze-same (kt-transcript.rules 168 32) (machine 168 32) (λ n. ownStatus (squeeze k)) (seen r) k)
+  short-answer e h = call-answer (absorb e) (piece-taken 168 32 (length (framed e)) ∙ sym (event-0 (length e) h))
 
   pub squeeze-output : (out : List ℕ) → kt.outputOf 168 32 r out ≡ outputOf (record { run = r }) out
   unfolding outputOf performed rulesAt
   squeeze-output out =
       output-is 168 32 r out
-      ∙ ap (λ (y : Reply (runs.Run Nodes)). lent (y .status) (y .bytes) out) (squeeze-same (kt-transcript.rules 168 32) (machine 168 32) (λ n. ownStatus (squeeze (length out))) (seen r) (length out))
+      ∙ ap (λ (y : Reply (runs.Run Nodes)). lent (y .status) (y .bytes) out) (perform-same (kt-transcript.rules 168 32) (machine 168 32) (λ n. ownStatus (squeeze (length out))) (seen r) (squeeze (length out)) tt)
 
   -- a long event: what an empty piece would get, and 8 where that is taken
   pub long-answer : (e : List ℕ) → eventLimit < length e

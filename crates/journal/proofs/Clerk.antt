@@ -7,7 +7,7 @@ use lib.ListN.{length}
 use Rattle.sponge.specs.Transcript.{Phase.squeezing}
 use Rattle.sponge.specs.Streaming.{joined}
 use Rattle.sponge.proofs.Streaming.{outputSo}
-use Rattle.turboshake.specs.Transcript.{limit}
+use Rattle.turboshake.specs.Transcript.{messageLimit, outputLimit}
 use Rattle.kangarootwelve.specs.Transcript as kt
 use Rattle.kangarootwelve.specs.Transcript.{customizationLimit}
 use Rattle.kangarootwelve.specs.Model.{hashOutput}
@@ -19,11 +19,14 @@ use Rattle.journal.proofs.Streaming.{rate-positive, streaming-output}
 use Rattle.journal.proofs.Appended.{EachFits, appends, told-appends}
 
 -- the events appended in order, the name, and as many bytes squeezed as `out` holds
-pub shift-clerk : (events : List (List ℕ)) (name out : List ℕ) → EachFits events → length (message events) ≤ limit → length name ≤ customizationLimit → 0 < length out → length out ≤ limit
+pub shift-clerk : (events : List (List ℕ)) (name out : List ℕ) → EachFits events → length (message events) ≤ messageLimit → length name ≤ customizationLimit → 0 < length out → length out ≤ outputLimit
     → joined (ran (appends events (squeezing name) (length out)) .bytes) ≡ hashOutput 168 32 (message events) name out
 shift-clerk events name out each f g some h =
-    let told = told-appends events (squeezing name) (length out) each (record { input-fits = rw (limits-are 168 32 .0) f; output-fits = rw (limits-are 168 32 .1) h })
-    (argument-is 168 32 name ∙ customization-taken (length name) g) in
+    let told = told-appends events (squeezing name) (length out) each (record {
+      input-fits = rw (limits-are 168 32 .0) f;
+      output-fits = rw (limits-are 168 32 .1) h;
+      phase-taken = argument-is 168 32 name ∙ customization-taken (length name) g;
+    }) in
     streaming-output (appends events (squeezing name) (length out))
     ∙ ap (outputSo (kt.rules 168 32)) told
     ∙ output-published 168 32 (message events) name (length out)

@@ -9,14 +9,14 @@ use native.Mathlib.Omega.{arith}
 use lib.ListN.{length, replicate}
 use lib.Dec.{T, leb}
 use Rattle.sponge.specs.Status.{unreachable}
-use Rattle.sponge.specs.Transcript.{Call, Call.absorb, Call.finalize, Call.squeeze, Phase, Phase.absorbing, Phase.squeezing, phaseNumber, Transcript}
+use Rattle.sponge.specs.Transcript.{Call, Call.absorb, Call.customize, Call.finalize, Call.finish, Call.squeeze, Transcript}
 use Rattle.sponge.specs.Runs as runs
 use Rattle.sponge.specs.Runs.{runOf}
 use Rattle.sponge.proofs.Reachable as generic
-use Rattle.sponge.proofs.Reachable.{Taken}
-use Rattle.sponge.proofs.Streaming.{Fits}
+use Rattle.sponge.proofs.Reachable.{Told}
 use Rattle.kangarootwelve.specs.Transcript as kt
 use Rattle.kangarootwelve.specs.Model.{Nodes, machine, seen}
+use Rattle.kangarootwelve.proofs.Answers.{customized-is}
 use Rattle.kangarootwelve.proofs.Encoding.{encode-zero}
 use Rattle.kangarootwelve.proofs.Laws.{positions, due, shape, shaped, first-is, second-is}
 use Rattle.kangarootwelve.proofs.Streaming as kt-streaming
@@ -33,6 +33,7 @@ pub record Reached (j : Journal) : Type 0 where
   pub calls : List (Call (List ℕ))
   pub phase-is : ran calls .left .run .phase ≡ j .run .phase
   pub absorbed-is : ran calls .left .run .absorbed ≡ j .run .absorbed
+  pub customized-is : ran calls .left .run .customized ≡ j .run .customized
   pub squeezed-is : ran calls .left .run .squeezed ≡ j .run .squeezed
   pub node-is : ran calls .left .run .node .position ≡ j .run .node .position
   pub leaf-is : ran calls .left .run .leaf .position ≡ j .run .leaf .position
@@ -49,37 +50,32 @@ unfolding framed
 empties-length zero = refl
 empties-length (suc n) = rw encode-zero (ap suc (empties-length n))
 
-reached-by : (h : Phase (List ℕ)) → Taken (kt.rules 168 32) (machine 168 32) h → (r : runs.Run Nodes) → phaseNumber h ≡ r .phase → machine 168 32 .reachable r ≡ true
-    → Fits (kt.rules 168 32) (record { absorbed = message (replicate (r .absorbed) []); phase = h; squeezed = r .squeezed }) → Reached (dayOf r)
-reached-by h t r p e fits =
+reached-at : (r : runs.Run Nodes) → machine 168 32 .reachable r ≡ true → Reached (dayOf r)
+reached-at r e =
+    let g : Told (kt.rules 168 32) (machine 168 32) laws positions (due 168 32) (shape 168 32) (shaped 168 32) r =
+    generic.reachable-told (kt.rules 168 32) (machine 168 32) laws positions (due 168 32) (shape 168 32) (shaped 168 32) (kt-streaming.statuses 168 32) r e in
     let es : List (List ℕ) = replicate (r .absorbed) [] in
-    let b : Transcript (List ℕ) = record { absorbed = message es; phase = h; squeezed = r .squeezed } in
-    let is : ran (appends es h (r .squeezed)) .left ≡ dayTold b =
-    streaming (appends es h (r .squeezed)) .day ∙ ap dayTold (told-appends es h (r .squeezed) (empties-fit (r .absorbed)) fits t) in
     let l : length (message es) ≡ r .absorbed = empties-length (r .absorbed) in
-    let at : positions (runOf (kt.rules 168 32) (machine 168 32) b .state) ≡ positions (r .state) =
-    generic.same-positions (kt.rules 168 32) (machine 168 32) laws positions (due 168 32) (shape 168 32) (shaped 168 32) (runOf (kt.rules 168 32) (machine 168 32) b) r (laws .run-reachable b fits) e p l refl in
+    let b : Transcript (List ℕ) = record { absorbed = message es; phase = g .phase; squeezed = r .squeezed } in
+    let cs : List (Call (List ℕ)) = appends es (g .phase) (r .squeezed) in
+    let is : ran cs .left ≡ dayTold b =
+    streaming cs .day ∙ ap dayTold (told-appends es (g .phase) (r .squeezed) (empties-fit (r .absorbed)) (g .fits (message es) l)) in
+    let told : runs.Run Nodes = runOf (kt.rules 168 32) (machine 168 32) b in
+    let customized : machine 168 32 .customized (told .state) ≡ machine 168 32 .customized (r .state) = g .customized-is (message es) in
+    let at : positions (told .state) ≡ positions (r .state) =
+    generic.same-positions (kt.rules 168 32) (machine 168 32) laws positions (due 168 32) (shape 168 32) (shaped 168 32) told r (laws .run-reachable b (g .fits (message es) l)) e (g .phase-is) l customized refl in
     record {
-      calls = appends es h (r .squeezed);
-      phase-is = ap (λ (j : Journal). j .run .phase) is ∙ p;
+      calls = cs;
+      phase-is = ap (λ (j : Journal). j .run .phase) is ∙ g .phase-is;
       absorbed-is = ap (λ (j : Journal). j .run .absorbed) is ∙ l;
+      customized-is = ap (λ (j : Journal). j .run .customized) is ∙ sym (customized-is 168 32 (told .state)) ∙ customized ∙ customized-is 168 32 (r .state);
       squeezed-is = ap (λ (j : Journal). j .run .squeezed) is;
       node-is = ap (λ (j : Journal). j .run .node .position) is ∙ first-is _ _ _ _ at;
       leaf-is = ap (λ (j : Journal). j .run .leaf .position) is ∙ second-is _ _ _ _ at;
     }
 
-reached-at : (r : runs.Run Nodes) (p : ℕ) → p ≡ r .phase → machine 168 32 .reachable r ≡ true → Reached (dayOf r)
-reached-at r zero q e =
-    let t = shape 168 32 r e in
-    reached-by absorbing tt r q e (record { input-fits = rw (empties-length (r .absorbed)) (t .absorbed-fits); output-fits = rw (sym q) at (t .squeezed-fits) })
-reached-at r (suc zero) q e =
-    let t = shape 168 32 r e in
-    reached-by (squeezing (kt-streaming.statuses 168 32 .some)) (kt-streaming.statuses 168 32 .some-taken) r q e
-    (record { input-fits = rw (empties-length (r .absorbed)) (t .absorbed-fits); output-fits = rw (sym q) at (t .squeezed-fits) })
-reached-at r (suc (suc p)) q e = absurd (let l = shape 168 32 r e .phase-fits in omega arith)
-
 pub reachable-reached : (j : Journal) → machine 168 32 .reachable (seen (j .run)) ≡ true → Reached j
-reachable-reached j e = reached-at (seen (j .run)) (j .run .phase) refl e
+reachable-reached j e = reached-at (seen (j .run)) e
 
 -- ---- a reached day passes the test
 
@@ -87,7 +83,7 @@ pub reached-reachable : (j : Journal) → Reached j → machine 168 32 .reachabl
 reached-reachable j g =
     let passes : machine 168 32 .reachable (seen (ran (g .calls) .left .run)) ≡ true = rw (streaming (g .calls) .day) (laws .run-reachable _ (told-fits (g .calls))) in
     generic.alike-reachable (kt.rules 168 32) (machine 168 32) laws positions (due 168 32) (shape 168 32) (shaped 168 32) (seen (ran (g .calls) .left .run)) (seen (j .run)) passes
-    (g .phase-is) (g .absorbed-is) (g .squeezed-is) (rw (g .node-is, g .leaf-is))
+    (g .phase-is) (g .absorbed-is) (customized-is 168 32 _ ∙ g .customized-is ∙ sym (customized-is 168 32 (seen (j .run) .state))) (g .squeezed-is) (rw (g .node-is, g .leaf-is))
 
 -- ---- 5 is the status of that test and of no other
 
@@ -102,7 +98,9 @@ no-five n e = by (leb n eventLimit) e
 no-piece : (c : Call (List ℕ)) (n : ℕ) → rulesAt c .piece n ≡ unreachable → ⊥
 unfolding rulesAt
 no-piece (absorb e) n z = no-five (length e) z
+no-piece (customize p) n z = omega arith
 no-piece (finalize name) n z = omega arith
+no-piece finish n z = omega arith
 no-piece (squeeze k) n z = omega arith
 
 no-argument : (c : Call (List ℕ)) (a : List ℕ) → rulesAt c .argument a ≡ unreachable → ⊥

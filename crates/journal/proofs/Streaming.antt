@@ -5,8 +5,7 @@ use mathlib.Core.Path.{_≡_, refl, sym, ap, _∙_}
 use mathlib.Core.List.{List, [], _∷_, _++_, append-nil, append-assoc}
 use Prim.Native.Nat.{ℕ, zero, suc, _<_}
 use native.Mathlib.Omega.{arith}
-use lib.ListN.{length}
-use Rattle.sponge.specs.Transcript.{Call, Call.absorb, Call.finalize, Call.squeeze, Phase, Phase.absorbing, Phase.squeezing, phaseNumber, Transcript, freshTranscript, Reply, statusOf}
+use Rattle.sponge.specs.Transcript.{Call, Call.absorb, Call.customize, Call.finalize, Call.finish, Call.squeeze, Phase, Phase.absorbing, Phase.customizing, Phase.squeezing, Transcript, freshTranscript, Reply, statusAt}
 use Rattle.sponge.specs.Runs as runs
 use Rattle.sponge.specs.Runs.{runOf}
 use Rattle.sponge.specs.Streaming.{history, joined}
@@ -16,9 +15,11 @@ use Rattle.sponge.proofs.Streaming as generic
 use Rattle.sponge.proofs.Streaming.{Fits, fits-fresh, outputSo, Laws}
 use Rattle.sponge.proofs.PieceStatus as pieces
 use Rattle.kangarootwelve.specs.Transcript as kt
+use Rattle.kangarootwelve.specs.Transcript.{customizedOf}
 use Rattle.kangarootwelve.specs.Published.{kt128}
 use Rattle.kangarootwelve.specs.Model.{Nodes, machine}
 use Rattle.kangarootwelve.proofs.Laws as kt-laws
+use Rattle.kangarootwelve.proofs.Streaming.{told-customized}
 use Rattle.kangarootwelve.proofs.Answers.{output-published}
 use Rattle.journal.specs.Published.{framed, message}
 use Rattle.journal.specs.Transcript.{ownStatus, framedCall, rulesAt, transcribe}
@@ -55,12 +56,14 @@ one t c h =
 
 added-message : (t : Transcript (List ℕ)) (c : Call (List ℕ)) → transcribe t c .left .absorbed ≡ t .absorbed ++ message (added (transcribe t c .status) c)
 unfolding transcribe
-added-message t c = by c (statusOf (rulesAt c) (phaseNumber (t .phase)) (length (t .absorbed)) (t .squeezed) (framedCall c)) refl
+added-message t c = by c (statusAt (rulesAt c) t (framedCall c)) refl
   where
-    by : (c : Call (List ℕ)) (v : ℕ) → statusOf (rulesAt c) (phaseNumber (t .phase)) (length (t .absorbed)) (t .squeezed) (framedCall c) ≡ v
+    by : (c : Call (List ℕ)) (v : ℕ) → statusAt (rulesAt c) t (framedCall c) ≡ v
         → transcribe t c .left .absorbed ≡ t .absorbed ++ message (added (transcribe t c .status) c)
     by c (suc v) e = rw (transcribe-refused (rulesAt c) t (framedCall c) v e) (sym (append-nil (t .absorbed)))
     by (absorb e) zero z = rw (transcribe-done (rulesAt (absorb e)) t (absorb (framed e)) z) (ap (λ (l : List ℕ). t .absorbed ++ l) (sym (append-nil (framed e))))
+    by (customize p) zero z = rw (transcribe-done (rulesAt (customize p)) t (customize p) z) (sym (append-nil (t .absorbed)))
+    by finish zero z = rw (transcribe-done (rulesAt finish) t finish z) (sym (append-nil (t .absorbed)))
     by (finalize a) zero z = rw (transcribe-done (rulesAt (finalize a)) t (finalize a) z) (sym (append-nil (t .absorbed)))
     by (squeeze k) zero z = rw (transcribe-done (rulesAt (squeeze k)) t (squeeze k) z) (sym (append-nil (t .absorbed)))
 
@@ -75,6 +78,7 @@ taken-message (c ∷ cs) t =
 
 output-digest : (f : List ℕ) (h : Phase (List ℕ)) (n : ℕ) (es : List (List ℕ)) → f ≡ message es → outputSo (kt.rules 168 32) (record { absorbed = f; phase = h; squeezed = n }) ≡ digestOf h es n
 output-digest f absorbing n es e = refl
+output-digest f (customizing c) n es e = refl
 output-digest f (squeezing name) n es e = output-published 168 32 f name n ∙ ap (λ (m : List ℕ). kt128 m name n) e
 
 -- ---- the list theorem
@@ -100,6 +104,10 @@ streaming cs =
       absorbed = m;
       output = streaming-output cs ∙ output-digest (told cs .left .absorbed) (told cs .left .phase) (told cs .left .squeezed) (taken freshTranscript cs) m;
     }
+
+-- the third total of the day left is the length of the book's name
+pub customized-told : (cs : List (Call (List ℕ))) → ran cs .left .run .customized ≡ customizedOf (told cs .left .phase)
+customized-told cs = ap (λ (j : Journal). j .run .customized) (streaming cs .day) ∙ told-customized 168 32 (told cs .left)
 
 -- no list of calls passes the limits
 pub told-fits : (cs : List (Call (List ℕ))) → Fits (kt.rules 168 32) (told cs .left)

@@ -1,10 +1,10 @@
--- The law of joining (demand 3) for days, as one statement about a list of calls from a fresh day: events, each appended whole, finalizes
--- and squeezes, refused ones included. Request Q-1: the law reads over whole events.
+-- The law of joining (demand 3) for days, as one statement about a list of calls from a fresh day: events, each appended whole, pieces
+-- of the name, both closes and squeezes, refused ones included. Request Q-1: the law reads over whole events.
 -- Assumes nothing.
 use mathlib.Core.Path.{_≡_}
 use mathlib.Core.List.{List, [], _∷_, _++_}
 use Prim.Native.Nat.{ℕ, zero, suc}
-use Rattle.sponge.specs.Transcript.{Call, Call.absorb, Call.finalize, Call.squeeze, Phase, Phase.absorbing, Phase.squeezing, Transcript, freshTranscript}
+use Rattle.sponge.specs.Transcript.{Call, Call.absorb, Call.customize, Call.finalize, Call.finish, Call.squeeze, Phase, Phase.absorbing, Phase.customizing, Phase.squeezing, Transcript, freshTranscript}
 use Rattle.sponge.specs.Runs.{runOf}
 use Rattle.sponge.specs.Streaming.{History, history, joined}
 use Rattle.kangarootwelve.specs.Transcript as kangarootwelve
@@ -24,7 +24,9 @@ ran cs = history replyOf freshDay cs
 -- the event that a call with this status adds to a day
 abbrev pub added : ℕ → Call (List ℕ) → List (List ℕ)
 added zero (absorb e) = e ∷ []
+added zero (customize p) = []
 added zero (finalize name) = []
+added zero finish = []
 added zero (squeeze k) = []
 added (suc n) c = []
 
@@ -36,6 +38,7 @@ taken t (c ∷ cs) = added (transcribe t c .status) c ++ taken (transcribe t c .
 -- the first n bytes of the digest of the events es, once the day is closed
 abbrev pub digestOf : Phase (List ℕ) → List (List ℕ) → ℕ → List ℕ
 digestOf absorbing es n = []
+digestOf (customizing c) es n = []
 digestOf (squeezing name) es n = digest es name n
 
 -- the statuses and the bytes of each call are the book's; the day left is the one that the book tells of, a function of the book alone; the

@@ -16,7 +16,7 @@ use sponge::status;
 // The most bytes of an event.
 pub const EVENT_LIMIT: u64 = 65535;
 
-// A day: document 01, with the message of request Q-1. Its run is KT128's: two states, the phase and the two totals, however long the day.
+// A day: document 01, with the message of request Q-1. Its run is KT128's: two states, the phase and the three totals, however long the day.
 pub struct Journal {
     pub run: Run,
 }
@@ -106,12 +106,28 @@ impl Journal {
         absorb_both(run, event, &bytes[start..9])
     }
 
-    // Ends the day under the station's name.
+    // Absorbs a piece of the station's name. The first one, even an empty one, ends the events.
+    pub fn customize(self, piece: &[u8]) -> Answer
+        ensures { λ r. ⌜ r ≡ answerOf self (Call.customize (now (piece .entry))) ⌝ }
+    {
+        let run = self.run;
+        answer_of(Kt128 { run }.customize(piece))
+    }
+
+    // Ends the day under the station's whole name.
     pub fn finalize(self, name: &[u8]) -> Answer
         ensures { λ r. ⌜ r ≡ answerOf self (Call.finalize (now (name .entry))) ⌝ }
     {
         let run = self.run;
         answer_of(Kt128 { run }.finalize(name))
+    }
+
+    // Ends the day under the name that was absorbed in pieces.
+    pub fn finish(self) -> Answer
+        ensures { λ r. ⌜ r ≡ answerOf self Call.finish ⌝ }
+    {
+        let run = self.run;
+        answer_of(Kt128 { run }.finish())
     }
 
     // Squeezes as many bytes of the day's digest as `out` holds.

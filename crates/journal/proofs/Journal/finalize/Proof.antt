@@ -1,5 +1,6 @@
 use mathlib.Core.Path.{ap, _∙_}
-use Rattle.journal.proofs.Cases.{dayAnswer, finalize-answer}
+use Rattle.sponge.specs.Transcript.{Call.finalize}
+use Rattle.journal.proofs.Cases.{dayAnswer, call-answer}
 use borrow.Author.Needs.{needs}
 use Rattle.journal.proofs.Journal.finalize.Statement.{statement}
 use Rattle.journal.proofs.Journal.finalize.Tie as tie
@@ -13,7 +14,7 @@ answer-of-requires c κs = search needs
 returns : tie.Need-returns
 returns c =
     let a = c .before .before .before .before .args in
-    c .answer-of .ensures ∙ ap dayAnswer (c .before .finalize .ensures) ∙ finalize-answer (a .self .run) (a .name .now)
+    c .answer-of .ensures ∙ ap dayAnswer (c .before .finalize .ensures) ∙ call-answer (a .self .run) (finalize (a .name .now)) tt
 
 pub finalize-spec : {M : Type 1} → statement M
 finalize-spec = tie.close (tie.spec finalize-requires answer-of-requires returns)

@@ -1,6 +1,7 @@
 use mathlib.Core.Path.{ap, _∙_}
 use lib.ListN.{length}
-use Rattle.journal.proofs.Cases.{dayAnswer, squeeze-answer, squeeze-output}
+use Rattle.sponge.specs.Transcript.{Call.squeeze}
+use Rattle.journal.proofs.Cases.{dayAnswer, call-answer, squeeze-output}
 use borrow.Author.Needs.{needs}
 use Rattle.journal.proofs.Journal.squeeze.Statement.{statement}
 use Rattle.journal.proofs.Journal.squeeze.Tie as tie
@@ -17,7 +18,7 @@ same-length c = search needs
 returns : tie.Need-returns
 returns c =
     let a = c .before .before .before .before .before .before .before .args in (
-      c .answer-of .ensures ∙ ap dayAnswer (c .before .before .before .squeeze .ensures .0) ∙ squeeze-answer (a .self .run) (length (a .out .now)),
+      c .answer-of .ensures ∙ ap dayAnswer (c .before .before .before .squeeze .ensures .0) ∙ call-answer (a .self .run) (squeeze (length (a .out .now))) tt,
       c .before .before .before .squeeze .ensures .1 ∙ squeeze-output (a .self .run) (a .out .now),
     )
 
