@@ -62,12 +62,33 @@ pub fn absorb(function: KtFunction, run: Run, piece: &[u8]) -> KtAnswer
     }
 }
 
+// A piece of the customization string. The first one, even an empty one, ends the message.
+pub fn customize(function: KtFunction, run: Run, piece: &[u8]) -> KtAnswer
+    ensures { λ r. ⌜ r ≡ answerIn function run (Call.customize (now (piece .entry))) ⌝ }
+{
+    match function {
+        KtFunction::Kt128 => answer_of_128(Kt128 { run }.customize(piece)),
+        KtFunction::Kt256 => answer_of_256(Kt256 { run }.customize(piece)),
+    }
+}
+
+// Closes the run with the whole customization string.
 pub fn finalize(function: KtFunction, run: Run, customization: &[u8]) -> KtAnswer
     ensures { λ r. ⌜ r ≡ answerIn function run (Call.finalize (now (customization .entry))) ⌝ }
 {
     match function {
         KtFunction::Kt128 => answer_of_128(Kt128 { run }.finalize(customization)),
         KtFunction::Kt256 => answer_of_256(Kt256 { run }.finalize(customization)),
+    }
+}
+
+// Closes the run with the customization string that was absorbed in pieces.
+pub fn finish(function: KtFunction, run: Run) -> KtAnswer
+    ensures { λ r. ⌜ r ≡ answerIn function run Call.finish ⌝ }
+{
+    match function {
+        KtFunction::Kt128 => answer_of_128(Kt128 { run }.finish()),
+        KtFunction::Kt256 => answer_of_256(Kt256 { run }.finish()),
     }
 }
 
