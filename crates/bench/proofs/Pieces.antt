@@ -9,7 +9,7 @@ use borrow.Author.Tests.{eq-eqb, ne-eqb, le-leb, lt-leb}
 use lib.ListN.{length, take, drop}
 use lib.Seq.{length-take-le, take-add, take-all}
 use Rattle.sponge.specs.Transcript.{Call, Call.absorb, Call.finalize, Call.squeeze}
-use Rattle.turboshake.specs.Transcript.{limit}
+use Rattle.turboshake.specs.Transcript.{messageLimit, outputLimit}
 use Rattle.bench.specs.Pieces.{piecesStatus, piecesOutput}
 
 -- a hasher H whose calls answer an X
@@ -27,12 +27,12 @@ pub record Hasher (A H X : Type 0) : Type 0 where
   pub after : List ℕ → H
   pub closed : List ℕ → H
   pub fresh-run : fresh ≡ after []
-  pub absorb-piece : (m p : List ℕ) → length (m ++ p) ≤ limit → (status (answer (after m) (absorb p)) ≡ 0) × (left (answer (after m) (absorb p)) ≡ after (m ++ p))
-  pub absorb-long : (m p : List ℕ) → length m ≤ limit → limit < length (m ++ p) → status (answer (after m) (absorb p)) ≡ 2
-  pub finalize-run : (m : List ℕ) → length m ≤ limit → left (answer (after m) (finalize argument)) ≡ closed m
-  pub squeeze-run : (m out : List ℕ) → length m ≤ limit → length out ≤ limit
+  pub absorb-piece : (m p : List ℕ) → length (m ++ p) ≤ messageLimit → (status (answer (after m) (absorb p)) ≡ 0) × (left (answer (after m) (absorb p)) ≡ after (m ++ p))
+  pub absorb-long : (m p : List ℕ) → length m ≤ messageLimit → messageLimit < length (m ++ p) → status (answer (after m) (absorb p)) ≡ 2
+  pub finalize-run : (m : List ℕ) → length m ≤ messageLimit → left (answer (after m) (finalize argument)) ≡ closed m
+  pub squeeze-run : (m out : List ℕ) → length m ≤ messageLimit → length out ≤ outputLimit
       → (status (answer (closed m) (squeeze (length out))) ≡ 0) × (output (closed m) out ≡ published m (length out))
-  pub squeeze-long : (m out : List ℕ) → length m ≤ limit → limit < length out
+  pub squeeze-long : (m out : List ℕ) → length m ≤ messageLimit → outputLimit < length out
       → (status (answer (closed m) (squeeze (length out))) ≡ 6) × (output (closed m) out ≡ out)
 
 -- ---- the status and the output by cases
@@ -47,24 +47,24 @@ module _ (published : List ℕ → ℕ → List ℕ) (step : ℕ) (m out : List 
   pieces-9 e = (rw (eq-eqb step 0 e), rw (eq-eqb step 0 e))
 
   module _ (s : step ≡ 0 → ⊥) where
-    pieces-2 : limit < length m → Right published step m out 2 out
+    pieces-2 : messageLimit < length m → Right published step m out 2 out
     unfolding piecesStatus piecesOutput
-    pieces-2 h = (rw (ne-eqb step 0 s, lt-leb (length m) limit h), rw (ne-eqb step 0 s, lt-leb (length m) limit h))
+    pieces-2 h = (rw (ne-eqb step 0 s, lt-leb (length m) messageLimit h), rw (ne-eqb step 0 s, lt-leb (length m) messageLimit h))
 
-    pieces-6 : length m ≤ limit → limit < length out → Right published step m out 6 out
+    pieces-6 : length m ≤ messageLimit → outputLimit < length out → Right published step m out 6 out
     unfolding piecesStatus piecesOutput
-    pieces-6 h g = (rw (ne-eqb step 0 s, le-leb (length m) limit h, lt-leb (length out) limit g), rw (ne-eqb step 0 s, le-leb (length m) limit h, lt-leb (length out) limit g))
+    pieces-6 h g = (rw (ne-eqb step 0 s, le-leb (length m) messageLimit h, lt-leb (length out) outputLimit g), rw (ne-eqb step 0 s, le-leb (length m) messageLimit h, lt-leb (length out) outputLimit g))
 
-    pieces-0 : length m ≤ limit → length out ≤ limit → Right published step m out 0 (published m (length out))
+    pieces-0 : length m ≤ messageLimit → length out ≤ outputLimit → Right published step m out 0 (published m (length out))
     unfolding piecesStatus piecesOutput
-    pieces-0 h g = (rw (ne-eqb step 0 s, le-leb (length m) limit h, le-leb (length out) limit g), rw (ne-eqb step 0 s, le-leb (length m) limit h, le-leb (length out) limit g))
+    pieces-0 h g = (rw (ne-eqb step 0 s, le-leb (length m) messageLimit h, le-leb (length out) outputLimit g), rw (ne-eqb step 0 s, le-leb (length m) messageLimit h, le-leb (length out) outputLimit g))
 
 -- ---- the loop
 
 module _ {A H X : Type 0} (R : Hasher A H X) (m : List ℕ) where
   -- the loop's invariant: h has absorbed the first i bytes of m
   abbrev pub Absorbed : H → ℕ → Type 0
-  Absorbed h i = (i ≤ length m) × (i ≤ limit) × (h ≡ R .after (take i m))
+  Absorbed h i = (i ≤ length m) × (i ≤ messageLimit) × (h ≡ R .after (take i m))
 
   pub start : (h : H) → h ≡ R .fresh → Absorbed h 0
   start h e = (zero-le, zero-le, e ∙ R .fresh-run)
@@ -82,29 +82,29 @@ module _ {A H X : Type 0} (R : Hasher A H X) (m : List ℕ) where
         let e : i + k - i ≡ k = omega arith in
         w ∙ ap (λ (n : ℕ). R .answer h (absorb (take n (drop i m)))) e ∙ ap (λ (x : H). R .answer x (absorb (take k (drop i m)))) (inv .2)
 
-    piece-done : i + k ≤ limit → (R .status a ≡ 0) × (R .left a ≡ R .after (take (i + k) m))
+    piece-done : i + k ≤ messageLimit → (R .status a ≡ 0) × (R .left a ≡ R .after (take (i + k) m))
     piece-done g =
         let d = R .absorb-piece (take i m) (take k (drop i m)) (rw length-joined g) in
         (ap (R .status) answer-is ∙ d .0, ap (R .left) answer-is ∙ d .1 ∙ ap (R .after) joined)
 
-    piece-long : limit < i + k → R .status a ≡ 2
+    piece-long : messageLimit < i + k → R .status a ≡ 2
     piece-long g =
-        let n : length (take i m) ≤ limit = rw (length-take-le i m (inv .0)) (inv .1) in
+        let n : length (take i m) ≤ messageLimit = rw (length-take-le i m (inv .0)) (inv .1) in
         ap (R .status) answer-is ∙ R .absorb-long (take i m) (take k (drop i m)) n (rw length-joined g)
 
     -- a piece with status 0 fitted
     pub again : R .status a ≡ 0 → Absorbed (R .left a) (i + k)
-    again z = by (decLe (i + k) limit)
+    again z = by (decLe (i + k) messageLimit)
       where
-        by : Dec (i + k ≤ limit) → Absorbed (R .left a) (i + k)
+        by : Dec (i + k ≤ messageLimit) → Absorbed (R .left a) (i + k)
         by (yes g) = (l, g, piece-done g .1)
         by (no g) = absurd (let t = piece-long (omega arith) in omega arith)
 
-    -- and a refused one passes the limit, and so does the message
+    -- and a refused one passes the message limit, and so does the message
     pub refused : (step : ℕ) → (step ≡ 0 → ⊥) → (out : List ℕ) → (R .status a ≡ 0 → ⊥) → Right (R .published) step m out (R .status a) out
-    refused step s out z = by (decLe (i + k) limit)
+    refused step s out z = by (decLe (i + k) messageLimit)
       where
-        by : Dec (i + k ≤ limit) → Right (R .published) step m out (R .status a) out
+        by : Dec (i + k ≤ messageLimit) → Right (R .published) step m out (R .status a) out
         by (yes g) = absurd (z (piece-done g .0))
         by (no g) =
             let p = pieces-2 (R .published) step m out s (omega arith) in
@@ -113,7 +113,7 @@ module _ {A H X : Type 0} (R : Hasher A H X) (m : List ℕ) where
   -- all of m was absorbed; a is what its finalize answers, b what the squeeze then answers, and o what the output then holds
   module _ (h : H) (i : ℕ) (inv : Absorbed h i) (l : length m ≤ i) (a : X) (w : a ≡ R .answer h (finalize (R .argument)))
       (out : List ℕ) (b : X) (v : b ≡ R .answer (R .left a) (squeeze (length out))) (o : List ℕ) (u : o ≡ R .output (R .left a) out) where
-    short : length m ≤ limit
+    short : length m ≤ messageLimit
     short = let n = inv .1 in omega arith
 
     closes : R .left a ≡ R .closed m
@@ -128,15 +128,15 @@ module _ {A H X : Type 0} (R : Hasher A H X) (m : List ℕ) where
     output-is = u ∙ ap (λ (x : H). R .output x out) closes
 
     pub row : (step : ℕ) → (step ≡ 0 → ⊥) → Right (R .published) step m out (R .status b) o
-    row step s = by (decLe (length out) limit)
+    row step s = by (decLe (length out) outputLimit)
       where
-        by : Dec (length out ≤ limit) → Right (R .published) step m out (R .status b) o
+        by : Dec (length out ≤ outputLimit) → Right (R .published) step m out (R .status b) o
         by (yes g) =
             let q = R .squeeze-run m out short g in
             let p = pieces-0 (R .published) step m out s short g in
             (status-is ∙ q .0 ∙ p .0, output-is ∙ q .1 ∙ p .1)
         by (no g) =
-            let f : limit < length out = omega arith in
+            let f : outputLimit < length out = omega arith in
             let q = R .squeeze-long m out short f in
             let p = pieces-6 (R .published) step m out s short f in
             (status-is ∙ q .0 ∙ p .0, output-is ∙ q .1 ∙ p .1)

@@ -8,7 +8,7 @@ use lib.Dec.{eqb, leb}
 use Rattle.sponge.specs.Status.{done, inputTooLong, outputTooLong}
 use Rattle.sponge.specs.Transcript.{lent}
 use Rattle.turboshake.specs.Published.{turboshake128}
-use Rattle.turboshake.specs.Transcript.{limit}
+use Rattle.turboshake.specs.Transcript.{messageLimit, outputLimit}
 use Rattle.kangarootwelve.specs.Published.{kt128}
 
 -- the published functions, of the message and the number of bytes asked: TurboSHAKE128 with D = 1F, and KT128 with C empty
@@ -24,7 +24,7 @@ badStep = 9
 
 -- the status for m bytes in pieces of `step`, and n bytes asked
 unfoldable pub piecesStatus : ℕ → ℕ → ℕ → ℕ
-piecesStatus step m n = cond (eqb step 0) badStep (cond (leb m limit) (cond (leb n limit) done outputTooLong) inputTooLong)
+piecesStatus step m n = cond (eqb step 0) badStep (cond (leb m messageLimit) (cond (leb n outputLimit) done outputTooLong) inputTooLong)
 
 -- what the lent output holds after it
 unfoldable pub piecesOutput : (List ℕ → ℕ → List ℕ) → ℕ → List ℕ → List ℕ → List ℕ

@@ -5,7 +5,7 @@ use mathlib.Core.List.{List, [], _∷_, _++_}
 use Prim.Native.Nat.{ℕ, _≤_, zero-le}
 use lib.ListN.{length}
 use Rattle.sponge.specs.Transcript.{Call.absorb, Call.finalize, Call.squeeze}
-use Rattle.turboshake.specs.Transcript.{limit}
+use Rattle.turboshake.specs.Transcript.{messageLimit}
 use Rattle.kangarootwelve.specs.Published.{kt128}
 use Rattle.kangarootwelve.specs.Model.{hashStatus, hashOutput}
 use Rattle.kangarootwelve.proofs.Answers.{hash-done}
@@ -21,7 +21,7 @@ use Rattle.journal.proofs.Pieces.{dayAfter, dayEnded, fresh-after, append-taken
 
 -- the day has taken these events
 pub record Took (day : Journal) (events : List (List ℕ)) : Type 0 where
-  pub fits : length (message events) ≤ limit
+  pub fits : length (message events) ≤ messageLimit
   pub day-is : day ≡ dayAfter events
 
 pub fresh-took : (day : Journal) → day ≡ freshDay → Took day []
@@ -38,9 +38,10 @@ pub digest : (day : Journal) (es : List (List ℕ)) (name out : List ℕ) (f : A
     → s ≡ answerOf (f .journal) (squeeze (length out)) .status → o ≡ outputOf (f .journal) out → s ≡ 0 → o ≡ published.digest es name (length out)
 digest day es name out f s o t q z v u w =
     let b : f ≡ answerOf (dayAfter es) (finalize name) = q ∙ ap (λ (j : Journal). answerOf j (finalize name)) (t .day-is) in
-    let d : f .journal ≡ dayEnded es name = ap (λ (x : Answer). x .journal) b ∙ finalize-taken es name (t .fits) (sym (ap (λ (x : Answer). x .status) b) ∙ z) in
+    let k = finalize-taken es name (t .fits) (sym (ap (λ (x : Answer). x .status) b) ∙ z) in
+    let d : f .journal ≡ dayEnded es name = ap (λ (x : Answer). x .journal) b ∙ k .1 in
     u ∙ ap (λ (j : Journal). outputOf j out) d
-    ∙ squeeze-taken es name out (t .fits) (sym (ap (λ (j : Journal). answerOf j (squeeze (length out)) .status) d) ∙ sym v ∙ w)
+    ∙ squeeze-taken es name out (t .fits) (k .0) (sym (ap (λ (j : Journal). answerOf j (squeeze (length out)) .status) d) ∙ sym v ∙ w)
 
 -- ---- the clerk's part
 

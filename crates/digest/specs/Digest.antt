@@ -9,7 +9,7 @@ use lib.ListN.{length, drop}
 use Rattle.hex.specs.Hex.{hexOf}
 use Rattle.sponge.specs.Status.{done, inputTooLong}
 use Rattle.sponge.specs.Transcript.{Call.absorb}
-use Rattle.turboshake.specs.Transcript.{limit}
+use Rattle.turboshake.specs.Transcript.{messageLimit}
 use Rattle.kangarootwelve.specs.Published.{kt128}
 use Rattle.kangarootwelve.specs.Model.{freshOf, answerOf}
 use Rattle.kangarootwelve.specs.declared.Run.{Run}
@@ -17,7 +17,7 @@ use Rattle.kangarootwelve.specs.declared.Answer128.{Answer128}
 
 -- r is the run that the message m leaves, absorbed at once
 pub record Left (r : Run) (m : List ℕ) : Type 0 where
-  pub fits : length m ≤ limit
+  pub fits : length m ≤ messageLimit
   pub run : r ≡ answerOf 168 32 (freshOf 168 32) (absorb m) .run
 
 -- what an absorb answers: a message left the run, and no status but 0 and 2 is answered

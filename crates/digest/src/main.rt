@@ -5,7 +5,7 @@ ghost use Prim.Native.Nat.{_≤_};
 ghost use lib.ListN.{length, take};
 ghost use Rattle.io.specs.Counts.{clamped};
 ghost use Rattle.sponge.specs.Transcript.{Call};
-ghost use Rattle.turboshake.specs.Transcript.{limit};
+ghost use Rattle.turboshake.specs.Transcript.{outputLimit};
 ghost use Rattle.kangarootwelve.specs.Model.{answer128};
 ghost use Rattle.digest.specs.Digest.{Absorbs, Digests, Written};
 use kangarootwelve::Answer128;
@@ -73,7 +73,7 @@ fn absorb_input(buffer: &mut [u8]) -> Absorbed
 
 // Ends the message, and squeezes as many bytes as `out` holds.
 fn finish(hasher: Kt128, out: &mut [u8]) -> u8
-    requires { ⌜ length (now out) ≤ limit ⌝ }
+    requires { ⌜ length (now out) ≤ outputLimit ⌝ }
     ensures { λ r. ⌜ Digests (hasher .run) (length (now (out .entry))) r (now (out .exit)) ⌝ }
 {
     let customization = [0u8; 0];
