@@ -1,5 +1,6 @@
 // The fields of a run by the numbers that op S gives them: phase, bytes absorbed, bytes squeezed, position; 64 + i is lane i. A run
-// of KT has the position and the lanes of the final node there; 4 is the leaf's position, and 96 + i lane i of the leaf.
+// of KT has the position and the lanes of the final node there; 4 is the leaf's position, 5 the customization bytes, and 96 + i lane i of
+// the leaf.
 ghost use Prim.Native.Nat.{_<_};
 use kangarootwelve::State;
 
@@ -66,6 +67,23 @@ fn with_lane(state: State, lane: u8, value: u64) -> State
     next
 }
 
+fn kt_written(run: kangarootwelve::Run) -> KtWritten {
+    KtWritten { is_done: true, run }
+}
+
+// The fields that are lanes. A function of its own: among fewer cases what `with_lane` requires is found without a proof file.
+fn write_kt_lane(run: kangarootwelve::Run, field: u8, value: u64) -> KtWritten {
+    let node = run.node;
+    let leaf = run.leaf;
+    let mut next = run;
+    match field {
+        64..=88 => next.node = with_lane(node, field - 64, value),
+        96..=120 => next.leaf = with_lane(leaf, field - 96, value),
+        _ => return kt_refused(run),
+    }
+    kt_written(next)
+}
+
 pub fn write_kt(run: kangarootwelve::Run, field: u8, value: u64) -> KtWritten {
     let node = run.node;
     let leaf = run.leaf;
@@ -81,12 +99,8 @@ pub fn write_kt(run: kangarootwelve::Run, field: u8, value: u64) -> KtWritten {
         2 => next.squeezed = value,
         3 => next.node = with_position(node, value),
         4 => next.leaf = with_position(leaf, value),
-        64..=88 => next.node = with_lane(node, field - 64, value),
-        96..=120 => next.leaf = with_lane(leaf, field - 96, value),
-        _ => return kt_refused(run),
+        5 => next.customized = value,
+        _ => return write_kt_lane(run, field, value),
     }
-    KtWritten {
-        is_done: true,
-        run: next,
-    }
+    kt_written(next)
 }

@@ -19,13 +19,24 @@ fn answer_of(answer: Answer) -> KtAnswer {
     }
 }
 
+// Op E, which has no payload.
+fn finish(session: Session, payload: &[u8]) -> Session {
+    if payload.len() != 0 {
+        return session::bad_record(session);
+    }
+    let run = session.kt_run;
+    kt_run::answered(session, answer_of(Journal { run }.finish()))
+}
+
 pub fn answer(session: Session, op: u8, payload: &[u8], text: &mut [u8]) -> Session
-    requires { ⌜ 921 ≤ length (now text) ⌝ }
+    requires { ⌜ 938 ≤ length (now text) ⌝ }
 {
     let run = session.kt_run;
     match op {
         b'A' => kt_run::answered(session, answer_of(Journal { run }.append(payload))),
+        b'C' => kt_run::answered(session, answer_of(Journal { run }.customize(payload))),
         b'F' => kt_run::answered(session, answer_of(Journal { run }.finalize(payload))),
+        b'E' => finish(session, payload),
         _ => kt_run::answer_fields(session, op, payload, text),
     }
 }

@@ -44,7 +44,7 @@ fn set(session: Session, payload: &[u8]) -> Session {
 }
 
 fn dump(session: Session, payload: &[u8], text: &mut [u8]) -> Session
-    requires { ⌜ 921 ≤ length (now text) ⌝ }
+    requires { ⌜ 938 ≤ length (now text) ⌝ }
 {
     if payload.len() != 0 {
         return session::bad_record(session);
@@ -55,13 +55,22 @@ fn dump(session: Session, payload: &[u8], text: &mut [u8]) -> Session
 
 // The records that do no call.
 pub fn answer_fields(session: Session, op: u8, payload: &[u8], text: &mut [u8]) -> Session
-    requires { ⌜ 921 ≤ length (now text) ⌝ }
+    requires { ⌜ 938 ≤ length (now text) ⌝ }
 {
     match op {
         b'S' => set(session, payload),
         b'D' => dump(session, payload, text),
         _ => session::bad_record(session),
     }
+}
+
+// Op E, which has no payload.
+fn finish(session: Session, function: KtFunction, payload: &[u8]) -> Session {
+    if payload.len() != 0 {
+        return session::bad_record(session);
+    }
+    let given = session.kt_run;
+    answered(session, functions::kt::finish(function, given))
 }
 
 pub fn answer(
@@ -71,12 +80,14 @@ pub fn answer(
     payload: &[u8],
     text: &mut [u8],
 ) -> Session
-    requires { ⌜ 921 ≤ length (now text) ⌝ }
+    requires { ⌜ 938 ≤ length (now text) ⌝ }
 {
     let given = session.kt_run;
     match op {
         b'A' => answered(session, functions::kt::absorb(function, given, payload)),
+        b'C' => answered(session, functions::kt::customize(function, given, payload)),
         b'F' => answered(session, functions::kt::finalize(function, given, payload)),
+        b'E' => finish(session, function, payload),
         _ => answer_fields(session, op, payload, text),
     }
 }

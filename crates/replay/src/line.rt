@@ -1,7 +1,7 @@
 // The lines that are written, each put together in a text as long as the longest.
 //
-// The line of a run is two digits, numbers of a space and 16 digits each, and a line end: 28 numbers and 479 bytes, or of KT 54
-// numbers and 921 bytes.
+// The line of a run is two digits, numbers of a space and 16 digits each, and a line end: 28 numbers and 479 bytes, or of KT 55
+// numbers and 938 bytes.
 ghost use mathlib.Core.Path.{_≡_};
 ghost use mathlib.Core.Bool.{true};
 ghost use Prim.Native.Nat.{_+_, _*_, _<_, _≤_};
@@ -74,21 +74,23 @@ pub fn write_run(run: turboshake::Run, text: &mut [u8]) -> bool
     io::write_all(STDOUT_FILENO, &text[0..479])
 }
 
-// The same of KT: the positions of the final node and of the leaf, then the lanes of each.
+// The same of KT: after the bytes squeezed the customization bytes; the positions of the final node and of the leaf, then the lanes of
+// each.
 pub fn write_kt_run(run: kangarootwelve::Run, text: &mut [u8]) -> bool
-    requires { ⌜ 921 ≤ length (now text) ⌝ }
+    requires { ⌜ 938 ≤ length (now text) ⌝ }
 {
     let node = run.node;
     let leaf = run.leaf;
     let node_lanes = node.lanes;
     let leaf_lanes = leaf.lanes;
     put_totals(text, run.phase, run.absorbed, run.squeezed);
-    put_number(text, 2, node.position as u64);
-    put_number(text, 3, leaf.position as u64);
-    put_lanes(text, 4, node_lanes);
-    put_lanes(text, 29, leaf_lanes);
-    put(text, 920, b'\n');
-    io::write_all(STDOUT_FILENO, &text[0..921])
+    put_number(text, 2, run.customized);
+    put_number(text, 3, node.position as u64);
+    put_number(text, 4, leaf.position as u64);
+    put_lanes(text, 5, node_lanes);
+    put_lanes(text, 30, leaf_lanes);
+    put(text, 937, b'\n');
+    io::write_all(STDOUT_FILENO, &text[0..938])
 }
 
 pub fn write_status(status: u8) -> bool {

@@ -6,8 +6,11 @@
 //
 //   N  1 byte function                                          a fresh run in hand                  fresh
 //   A  the piece, or the event                                  absorb, or append                    status
+//   C  a piece of KT's customization string, or of the          customize                            status
+//      station's name
 //   F  1 byte domain byte, KT's customization string, or the    finalize                             status
 //      station's name
+//   E  (n = 0)                                                  finish, of KT or a day               status
 //   R                                                           squeeze                              status, the buffer
 //   S  1 byte field, 8 bytes value                              writes a field of the run in hand    set
 //   D                                                           no call                              the run in hand
@@ -43,7 +46,7 @@ use session::Session;
 
 // The records, but R, that are for the run in hand.
 fn answer_run(session: Session, op: u8, payload: &[u8], text: &mut [u8]) -> Session
-    requires { ⌜ 921 ≤ length (now text) ⌝ }
+    requires { ⌜ 938 ≤ length (now text) ⌝ }
 {
     let chosen = session.chosen;
     match chosen {
