@@ -47,7 +47,7 @@ const MESSAGES: [usize; 25] = [
     24577,
 ];
 
-// The last one is refused.
+// Both sides of the lengths at which the length encoding grows by a byte.
 const CUSTOMIZATIONS: [usize; 6] = [0, 1, 255, 256, 65535, 65536];
 
 // The lengths of a message and of a customization string. In the tables first those of one, two, two and three chunks; then three
@@ -116,8 +116,8 @@ fn squeeze_output(function: KtFunction, run: Run, out: &mut [u8]) -> u8 {
     answer.status
 }
 
-// All in pieces. Answers the status of the first call that is refused, or 0. A squeeze is tried after a refused finalize too: it
-// must leave `out` as it is.
+// All in pieces. Answers the status of the first call that is refused, or 0: none is expected here. A squeeze would be tried after a
+// refused finalize too, and must leave `out` as it is then.
 fn cut(function: KtFunction, message: &[u8], customization: &[u8], out: &mut [u8]) -> u8 {
     let absorbed = absorb_message(function, message);
     if absorbed.status != DONE {

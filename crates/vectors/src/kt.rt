@@ -55,22 +55,74 @@ fn squeeze_output(function: KtFunction, run: Run, out: &mut [u8]) -> u8 {
     rest.status
 }
 
-// Computes the vector's output, and answers the status of the first call that is refused, or 0.
-fn digest(vector: KtVector, customization: &[u8], out: &mut [u8]) -> u8 {
+// The same of a run that a finalize or a finish handed back, unless that call was refused.
+fn squeeze_closed(function: KtFunction, closed: KtAnswer, out: &mut [u8]) -> u8 {
+    if closed.status != DONE {
+        return closed.status;
+    }
+    let run = closed.run;
+    squeeze_output(function, run, out)
+}
+
+// A fresh run that has absorbed the vector's message.
+fn absorb_vector(vector: KtVector) -> KtAnswer {
     let function = vector.function;
     let mut buffer = [0u8; 8192];
     fill(&mut buffer, vector.is_ff);
-    let absorbed = absorb_message(function, &buffer, vector.length);
+    absorb_message(function, &buffer, vector.length)
+}
+
+// Absorbs the customization string in pieces, each from the string's start: it is ptn, and a piece is a multiple of its period. Stops at a
+// call that is refused. An empty string is one empty piece: a first piece there must be, or the run would not leave the message.
+fn customize_pieces(function: KtFunction, run: Run, customization: &[u8]) -> KtAnswer {
+    let first = least(customization.len(), PIECE);
+    let mut answer = functions::kt::customize(function, run, &customization[0..first]);
+    let mut left = customization.len() - first;
+    while 0 < left && answer.status == DONE {
+        let k = least(left, PIECE);
+        let given = answer.run;
+        answer = functions::kt::customize(function, given, &customization[0..k]);
+        left -= k;
+    }
+    answer
+}
+
+// The vector's output by a finalize with the whole customization string. Answers the status of the first call that is refused, or 0.
+fn digest(vector: KtVector, customization: &[u8], out: &mut [u8]) -> u8 {
+    let function = vector.function;
+    let absorbed = absorb_vector(vector);
     if absorbed.status != DONE {
         return absorbed.status;
     }
     let open = absorbed.run;
     let finalized = functions::kt::finalize(function, open, customization);
-    if finalized.status != DONE {
-        return finalized.status;
+    squeeze_closed(function, finalized, out)
+}
+
+// The same by pieces of the customization string and a finish.
+fn digest_by_pieces(vector: KtVector, customization: &[u8], out: &mut [u8]) -> u8 {
+    let function = vector.function;
+    let absorbed = absorb_vector(vector);
+    if absorbed.status != DONE {
+        return absorbed.status;
     }
-    let run = finalized.run;
-    squeeze_output(function, run, out)
+    let open = absorbed.run;
+    let customized = customize_pieces(function, open, customization);
+    if customized.status != DONE {
+        return customized.status;
+    }
+    let given = customized.run;
+    let finished = functions::kt::finish(function, given);
+    squeeze_closed(function, finished, out)
+}
+
+// The same in one go, for a message no longer than the buffer.
+fn digest_in_one_go(vector: KtVector, customization: &[u8], out: &mut [u8]) -> u8 {
+    let function = vector.function;
+    let mut buffer = [0u8; 8192];
+    fill(&mut buffer, vector.is_ff);
+    let n = least(vector.length, 8192);
+    functions::kt::hash(function, &buffer[0..n], customization, out)
 }
 
 fn write_name(function: KtFunction) -> bool {
@@ -95,20 +147,37 @@ fn write_asked(vector: KtVector, customization: usize) -> bool {
         && write_number(vector.asked)
 }
 
-// Writes the vector's line; `out` is as long as what is asked.
-fn write_line(vector: KtVector, customization: &[u8], out: &mut [u8]) -> bool {
-    let status = digest(vector, customization, out);
-    write_asked(vector, customization.len())
-        && write_answer(status, out)
-        && io::write_all(STDOUT_FILENO, b"\n")
-}
-
-fn write_vector(vector: KtVector, customization: &[u8]) -> bool
+// Writes what was asked, and the digest by a finalize.
+fn write_digest(vector: KtVector, customization: &[u8]) -> bool
     requires { ⌜ vector .asked ≤ 10064 ⌝ }
 {
-    let mut out = [0u8; 10064];
+    let mut buffer = [0u8; 10064];
     let asked = vector.asked;
-    write_line(vector, customization, &mut out[0..asked])
+    let out = &mut buffer[0..asked];
+    let status = digest(vector, customization, out);
+    write_asked(vector, customization.len()) && write_answer(status, out)
+}
+
+// Writes a space and the digest by pieces, in a buffer that no other call wrote to.
+fn write_by_pieces(vector: KtVector, customization: &[u8]) -> bool
+    requires { ⌜ vector .asked ≤ 64 ⌝ }
+{
+    let mut buffer = [0u8; 64];
+    let asked = vector.asked;
+    let out = &mut buffer[0..asked];
+    let status = digest_by_pieces(vector, customization, out);
+    io::write_all(STDOUT_FILENO, b" ") && write_answer(status, out)
+}
+
+// The same in one go.
+fn write_in_one_go(vector: KtVector, customization: &[u8]) -> bool
+    requires { ⌜ vector .asked ≤ 64 ⌝ }
+{
+    let mut buffer = [0u8; 64];
+    let asked = vector.asked;
+    let out = &mut buffer[0..asked];
+    let status = digest_in_one_go(vector, customization, out);
+    io::write_all(STDOUT_FILENO, b" ") && write_answer(status, out)
 }
 
 // A message of ptn, with no customization string.
@@ -122,7 +191,7 @@ fn write_pattern(function: KtFunction, length: usize, asked: usize) -> bool
         length,
         asked,
     };
-    write_vector(vector, &customization)
+    write_digest(vector, &customization) && io::write_all(STDOUT_FILENO, b"\n")
 }
 
 // The messages ptn(17**0) to ptn(17**6).
@@ -139,9 +208,9 @@ fn write_powers(function: KtFunction, asked: usize) -> bool
     true
 }
 
-// The i-th vector that follows.
+// The i-th vector that follows, its digest three times.
 fn write_customized(function: KtFunction, i: usize, asked: usize, pattern: &[u8]) -> bool
-    requires { ⌜ (i < 8) × (asked ≤ 10064) ⌝ }
+    requires { ⌜ (i < 8) × (asked ≤ 64) ⌝ }
 {
     let vector = KtVector {
         function,
@@ -150,11 +219,15 @@ fn write_customized(function: KtFunction, i: usize, asked: usize, pattern: &[u8]
         asked,
     };
     let k = least(CUSTOMIZATIONS[i], pattern.len());
-    write_vector(vector, &pattern[0..k])
+    let customization = &pattern[0..k];
+    write_digest(vector, customization)
+        && write_by_pieces(vector, customization)
+        && write_in_one_go(vector, customization)
+        && io::write_all(STDOUT_FILENO, b"\n")
 }
 
 fn write_all_customized(function: KtFunction, asked: usize, pattern: &[u8]) -> bool
-    requires { ⌜ asked ≤ 10064 ⌝ }
+    requires { ⌜ asked ≤ 64 ⌝ }
 {
     let mut i: usize = 0;
     while i < 8 {

@@ -1,6 +1,7 @@
 // Runs the vectors of draft-irtf-cfrg-kangarootwelve-16, each message absorbed and each output squeezed in pieces. Writes a line
 // for each: the function, the message's kind and length, the domain byte (KT: the customization string's length), the bytes
-// asked, and the bytes that the draft prints, or the status of the call that was refused.
+// asked, and the bytes that the draft prints, or the status of the call that was refused. The last eight vectors of each KT function
+// have these bytes three times: by a finalize with the whole customization string, by pieces of it and a finish, and in one go.
 mod kt;
 
 ghost use mathlib.Core.Path.{_≡_};
