@@ -81,8 +81,9 @@ class KangarooTwelve(unittest.TestCase):
     FUNCTIONS = {"KT128": reference.kt128, "KT256": reference.kt256}
 
     def test_length_encode(self):
-        """Document 01's list."""
+        """Document 01's list, and the longest C and one byte more."""
         encoded = {0: "00", 12: "0C 01", 255: "FF 01", 256: "01 00 02", 65_535: "FF FF 02", 65_538: "01 00 02 03"}
+        encoded |= {16_777_215: "FF FF FF 03", 16_777_216: "01 00 00 00 04"}
         self.assertEqual({x: reference.length_encode(x) for x in encoded}, {x: bytes.fromhex(text) for x, text in encoded.items()})
 
     def test_merged(self):

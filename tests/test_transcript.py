@@ -1,14 +1,16 @@
 """The two ways to say what a list of calls answers agree, and the test of answer 5 is what calls from a fresh run reach."""
+import itertools
 import random
 import unittest
 
 import reference
 import transcript
-from transcript import CHAINING, DAY, KT, TURBOSHAKE, DayRun, DayTranscript, KtRun, KtTranscript, Run, Sponge, Transcript
+from transcript import CHAINING, DAY, KT, TURBOSHAKE, DayRun, DayTranscript, KtRun, KtTranscript, Limits, Run, Sponge, Transcript
 
 # Low enough that random lists of calls pass them.
 ABSORB_LIMIT, SQUEEZE_LIMIT = 900, 700
 KT_ABSORB_LIMIT = 26_000
+CUSTOM_LIMIT = 17_000
 EVENT_LIMIT = 8300
 
 
@@ -21,11 +23,11 @@ class ShortRun(Run):
 
 
 class ShortKtTranscript(KtTranscript):
-    ABSORB_LIMIT, SQUEEZE_LIMIT = KT_ABSORB_LIMIT, SQUEEZE_LIMIT
+    ABSORB_LIMIT, SQUEEZE_LIMIT, CUSTOM_LIMIT = KT_ABSORB_LIMIT, SQUEEZE_LIMIT, CUSTOM_LIMIT
 
 
 class ShortKtRun(KtRun):
-    ABSORB_LIMIT, SQUEEZE_LIMIT = KT_ABSORB_LIMIT, SQUEEZE_LIMIT
+    ABSORB_LIMIT, SQUEEZE_LIMIT, CUSTOM_LIMIT = KT_ABSORB_LIMIT, SQUEEZE_LIMIT, CUSTOM_LIMIT
 
 
 class ShortDayTranscript(DayTranscript, ShortKtTranscript):
@@ -53,7 +55,7 @@ class SmallRun(Run):
         super().__init__(self.RATE)
 
     def key(self):
-        return self.phase, self.absorbed, self.squeezed, *(sponge.position for sponge in self.sponges())
+        return self.phase, *self.totals(), *(sponge.position for sponge in self.sponges())
 
     def set(self, phase, absorbed, squeezed, *positions):
         self.phase, self.absorbed, self.squeezed = phase, absorbed, squeezed
@@ -65,25 +67,40 @@ class SmallRun(Run):
 class SmallKtRun(SmallRun, KtRun):
     """Chunks of 6 bytes, blocks of 4, chaining values of 3: chunks end in the middle of a block and at its end."""
 
-    ABSORB_LIMIT, SQUEEZE_LIMIT, RATE, CHUNK = 20, 9, 4, 6
+    ABSORB_LIMIT, SQUEEZE_LIMIT, CUSTOM_LIMIT, RATE, CHUNK = 14, 6, 13, 4, 6
 
     def __init__(self):
         Run.__init__(self, self.RATE)
+        self.customized = 0
         self.leaf = self.SPONGE(self.RATE)
         self.chaining = 3
+
+    def set(self, phase, absorbed, squeezed, customized, *positions):
+        self.customized = customized
+        return super().set(phase, absorbed, squeezed, *positions)
 
 
 class SmallDayRun(DayRun, SmallKtRun):
     EVENT_LIMIT = 5
 
 
+def fields(run):
+    """All that a run has: phase, totals, and of each sponge the position and the lanes."""
+    return [run.phase, *run.totals(), *((sponge.position, tuple(sponge.lanes)) for sponge in run.sponges())]
+
+
 class Agreement(unittest.TestCase):
-    def both(self, book, run, name, argument):
-        said, done = getattr(book, name)(argument), getattr(run, name)(argument)
-        self.assertEqual(said, done, (name, argument))
-        self.assertEqual((book.phase, len(book.fed), book.read), (run.phase, run.absorbed, run.squeezed))
+    def both(self, book, run, name, *arguments):
+        """The two say the same and have the same phase and totals; a run that refuses is as it was."""
+        before = fields(run)
+        said, done = getattr(book, name)(*arguments), getattr(run, name)(*arguments)
+        self.assertEqual(said, done, (name, arguments))
+        self.assertEqual((book.phase, book.totals()), (run.phase, run.totals()))
         self.assertTrue(run.is_reached())
-        return said[0] if name == "squeeze" else said
+        status = said[0] if name == "squeeze" else said
+        if status:
+            self.assertEqual(fields(run), before)
+        return status
 
     def test_random_lists(self):
         source = random.Random(3)
@@ -99,7 +116,7 @@ class Agreement(unittest.TestCase):
         self.assertEqual(seen, {("absorb", s) for s in (0, 2, 3)} | {("finalize", s) for s in (0, 1, 3)} | {("squeeze", s) for s in (0, 3, 6)})
 
     def test_random_kt_lists(self):
-        """Through up to four chunks; a piece often ends at, one before or one past a chunk's end."""
+        """Through up to six chunks; a piece of the message or of C often ends at, one before or one past a chunk's end."""
         self.chunked_lists(ShortKtTranscript, ShortKtRun, KT, (0, 2, 3), range(-1, 2))
 
     def test_random_day_lists(self):
@@ -110,15 +127,18 @@ class Agreement(unittest.TestCase):
         """`absorbed` has the answers that pieces are to meet, `ends` how far from a chunk's end they often end."""
         source = random.Random(4)
         seen = set()
-        for rate in 60 // len(rates) * list(rates.values()):
+        for rate in 100 // len(rates) * list(rates.values()):
             book, run = book_kind(rate), run_kind(rate)
-            for _ in range(14):
-                name = source.choice(("absorb",) * 5 + ("finalize", "squeeze", "squeeze", "squeeze"))
-                size = source.choice((0, 1, 2, source.randrange(9000), max(0, -run.absorbed % 8192 + source.choice(ends))))
-                custom = source.choice((0, 1, 255, 256, source.randrange(9000), max(0, -run.absorbed % 8192 - source.randrange(4)), 65_536))
-                arguments = {"absorb": reference.ptn(size), "squeeze": size % 500, "finalize": reference.ptn(custom)}
-                seen.add((name, self.both(book, run, name, arguments[name])))
-        self.assertEqual(seen, {("absorb", s) for s in absorbed} | {("finalize", s) for s in (0, 3, 4)} | {("squeeze", s) for s in (0, 3, 6)})
+            for _ in range(20):
+                name = source.choice((*8 * ("absorb",), "finalize", "customize", "customize", "finish", *3 * ("squeeze",)))
+                merged = run.absorbed + run.customized
+                size = source.choice((0, 1, 2, source.randrange(9000), max(0, -merged % 8192 + source.choice(ends))))
+                chunk = max(0, -merged % 8192 - source.randrange(4))
+                custom = reference.ptn(source.choice((0, 1, 255, 256, source.randrange(9000), chunk, CUSTOM_LIMIT, CUSTOM_LIMIT + 1)))
+                arguments = {"absorb": [reference.ptn(size)], "squeeze": [size % 500], "finalize": [custom], "customize": [custom], "finish": []}
+                seen.add((name, self.both(book, run, name, *arguments[name])))
+        due = {"absorb": absorbed, "finalize": (0, 3, 4), "customize": (0, 3, 4), "finish": (0, 3), "squeeze": (0, 3, 6)}
+        self.assertEqual(seen, {(name, status) for name, statuses in due.items() for status in statuses})
 
     def test_equal_books_leave_equal_runs(self):
         for kind, argument, size, steps in ((Run, 0x1F, 700, (1, 7, 168, 169, 700)), (KtRun, b"abc", 17_000, (97, 168, 8191, 8192, 17_000))):
@@ -131,7 +151,7 @@ class Agreement(unittest.TestCase):
                 run.finalize(argument)
                 for at in range(0, 500, asked):
                     run.squeeze(min(asked, 500 - at))
-                runs.append([run.phase, run.absorbed, run.squeezed, *(vars(sponge) for sponge in run.sponges())])
+                runs.append(fields(run))
             self.assertEqual(runs, [runs[0]] * 5)
 
 
@@ -166,35 +186,114 @@ class Leaf(unittest.TestCase):
             self.assertEqual(run.node.position, 0)
 
 
+class Customization(unittest.TestCase):
+    """The customization phase, by request Q-2, in the book and in the run."""
+
+    MESSAGE = reference.ptn(8000)
+
+    def both(self, function=2):
+        for one in (transcript.book_of(function), transcript.run_of(function)):
+            self.assertEqual(one.absorb(self.MESSAGE), 0)
+            yield one
+
+    def test_limits(self):
+        """The numbers of the request; the read limit stays."""
+        self.assertEqual((Limits.ABSORB_LIMIT, Limits.CUSTOM_LIMIT, Limits.SQUEEZE_LIMIT), (17_179_869_183, 16_777_215, 4_294_967_295))
+        self.assertEqual((Limits.ABSORB_LIMIT, Limits.CUSTOM_LIMIT, Limits.SQUEEZE_LIMIT), (2**34 - 1, 2**24 - 1, 2**32 - 1))
+
+    def test_first_piece(self):
+        """An empty one too ends the message phase; a message piece, an empty one too, and the old close then answer 3."""
+        for function in (2, 3, 4):
+            for piece in (b"", b"a"):
+                for one in self.both(function):
+                    self.assertEqual((one.phase, one.finish(), one.phase), (0, 3, 0))
+                    self.assertEqual((one.customize(piece), one.phase), (0, 2))
+                    self.assertEqual([one.absorb(bytes(size)) for size in (0, 1, 65_536)], [3, 3, 3])
+                    self.assertEqual([one.finalize(bytes(size)) for size in (0, 1, 65_536)], [3, 3, 3])
+                    self.assertEqual([one.squeeze(size) for size in (0, 1)], [(3, None)] * 2)
+                    self.assertEqual((one.totals()[2], one.finish(), one.phase, one.totals()[2]), (len(piece), 0, 1, len(piece)))
+                    self.assertEqual((one.finish(), one.customize(b""), one.customize(b"a"), one.finalize(b"")), (3, 3, 3, 3))
+
+    def test_same_as_whole(self):
+        """C in pieces is the C of the old close: the same output and, of a run, the same fields."""
+        for function, kt in ((2, reference.kt128), (3, reference.kt256)):
+            for size in (0, 1, 188, 189, 190, 191, 192, 193, 255, 256, 9000):
+                custom = reference.ptn(size)
+                for whole, cut in zip(self.both(function), self.both(function)):
+                    self.assertEqual(whole.finalize(custom), 0)
+                    self.assertEqual([cut.customize(custom[:100]), cut.customize(b""), cut.customize(custom[100:]), cut.finish()], [0] * 4)
+                    self.assertEqual((whole.phase, whole.totals()), (cut.phase, cut.totals()))
+                    if isinstance(whole, KtRun):
+                        self.assertEqual(fields(whole), fields(cut))
+                    self.assertEqual(cut.squeeze(100), (0, kt(self.MESSAGE, custom, 100)))
+
+    def test_longest(self):
+        """What would pass the limit is refused whole, in the message phase too, where it then goes on; less is taken."""
+        for kind in (ShortKtTranscript, ShortKtRun):
+            one = kind(168)
+            self.assertEqual([one.customize(bytes(CUSTOM_LIMIT + 1)), one.phase, one.absorb(b"a"), one.totals()], [4, 0, 0, (1, 0, 0)])
+            sizes = (0, CUSTOM_LIMIT - 1, 2, CUSTOM_LIMIT, 1, 0, 1)
+            self.assertEqual([one.customize(bytes(size)) for size in sizes], [0, 0, 4, 4, 0, 0, 4])
+            self.assertEqual((one.finish(), one.totals()), (0, (1, 0, CUSTOM_LIMIT)))
+            # 3 before 4
+            self.assertEqual([one.customize(bytes(size)) for size in (0, 1, CUSTOM_LIMIT + 1)], [3, 3, 3])
+            self.assertEqual(one.squeeze(40), (0, reference.kt128(b"a", bytes(CUSTOM_LIMIT), 40)))
+
+    def test_not_reached(self):
+        """5 before 3 and 4, of the new calls and of the old ones."""
+        over = CUSTOM_LIMIT + 1
+        for phase, *totals in ((0, 5, 0, 1), (1, 5, 0, over), (2, 5, 0, over), (2, 5, 1, 0), (3, 5, 0, 0), (2, 26_001, 0, 0)):
+            run = ShortKtRun(168)
+            run.phase, (run.absorbed, run.squeezed, run.customized) = phase, totals
+            run.node.position, run.leaf.position = run.positions_due()
+            statuses = [run.absorb(b""), run.customize(b""), run.customize(bytes(over)), run.finish(), run.finalize(b""), run.squeeze(0)[0]]
+            self.assertEqual(statuses, [5] * 6, (phase, totals))
+
+    def test_positions_of_s(self):
+        """In the customization phase the positions are those of M and C together."""
+        for message, custom in ((0, 0), (0, 8192), (0, 8193), (8190, 2), (8190, 3), (8192, 1), (9000, 8000)):
+            run, alone = KtRun(168), KtRun(168)
+            run.absorb(reference.ptn(message))
+            run.customize(reference.ptn(message + custom)[message:])
+            alone.absorb(reference.ptn(message + custom))
+            self.assertEqual(fields(run)[4:], fields(alone)[4:])
+            self.assertEqual((run.totals(), run.is_reached()), ((message, 0, custom), True))
+
+
 class Reached(unittest.TestCase):
-    def reached_from_fresh(self, kind, arguments):
+    def reached_from_fresh(self, kind, calls):
+        """All that these calls reach, and any piece and any read, by the name of the call and its arguments."""
         reached, left = set(), [kind().key()]
         while left:
             key = left.pop()
             if key in reached:
                 continue
             reached.add(key)
-            for size in range(12):
-                for name, argument in (("absorb", bytes(size)), ("squeeze", size), *(("finalize", a) for a in arguments)):
-                    run = kind().set(*key)
-                    getattr(run, name)(argument)
-                    left.append(run.key())
+            for name, *arguments in (*calls, *(call for size in range(12) for call in (("absorb", bytes(size)), ("squeeze", size)))):
+                run = kind().set(*key)
+                getattr(run, name)(*arguments)
+                left.append(run.key())
         return reached
 
     def test_by_every_call_from_a_fresh_run(self):
         """Visits all that calls reach from a fresh run, then asks is_reached of every phase, total and position near them."""
-        reached = self.reached_from_fresh(SmallRun, (0x1F,))
-        fields = ((p, a, s, at) for p in range(4) for a in range(24) for s in range(20) for at in range(11))
-        self.assertEqual({key for key in fields if SmallRun().set(*key).is_reached()}, reached)
+        reached = self.reached_from_fresh(SmallRun, [("finalize", 0x1F)])
+        near = itertools.product(range(4), range(24), range(20), range(11))
+        self.assertEqual({key for key in near if SmallRun().set(*key).is_reached()}, reached)
         self.assertEqual(len(reached), 21 + 21 * 18)
 
     def test_by_every_kt_call(self):
-        """A day reaches what a KT run does: an empty event adds one byte."""
+        """A day reaches what a KT run does: an empty event adds one byte. Either close alone reaches every closed run there is."""
+        pieces = [("customize", bytes(size)) for size in (0, 1, 5)]
+        wholes = [("finalize", bytes(size)) for size in range(15)]
         for kind in (SmallKtRun, SmallDayRun):
-            reached = self.reached_from_fresh(kind, (b"", bytes(5)))
-            fields = ((p, a, s, node, leaf) for p in range(3) for a in range(23) for s in range(11) for node in range(6) for leaf in range(6))
-            self.assertEqual({key for key in fields if kind().set(*key).is_reached()}, reached)
-            self.assertEqual(len(reached), 21 + 21 * 10)
+            reached = self.reached_from_fresh(kind, [*pieces, ("finish",)])
+            run = kind()
+            near = itertools.product(range(4), range(16), range(8), range(15), range(6), range(6))
+            self.assertEqual({key for key in near if run.set(*key).is_reached()}, reached)
+            self.assertEqual(len(reached), 15 + 15 * 14 + 15 * 7 * 14)
+            closed = {key for key in reached if key[0] == transcript.FINALIZED}
+            self.assertEqual({key for key in self.reached_from_fresh(kind, wholes) if key[0] == transcript.FINALIZED}, closed)
 
 
 class Day(unittest.TestCase):
@@ -212,10 +311,13 @@ class Day(unittest.TestCase):
             day = kind(168)
             sizes = (8300, 8300, 8300, 8301, 1092, 1091, 1090, 1089, 1088, 1, 8301, 0)
             self.assertEqual([day.absorb(bytes(size)) for size in sizes], [0, 0, 0, 8, 2, 2, 2, 2, 0, 2, 8, 2])
-            self.assertEqual(day.finalize(bytes(65_536)), 4)
-            self.assertEqual(day.finalize(b""), 0)
+            self.assertEqual(day.finalize(bytes(CUSTOM_LIMIT + 1)), 4)
+            self.assertEqual(day.customize(bytes(CUSTOM_LIMIT + 1)), 4)
+            self.assertEqual(day.customize(b""), 0)
             self.assertEqual([day.absorb(bytes(size)) for size in (0, 1, 8301, 26_001)], [3, 3, 3, 3])
-        day.phase = 2
+            self.assertEqual(day.finish(), 0)
+            self.assertEqual([day.absorb(bytes(size)) for size in (0, 1, 8301, 26_001)], [3, 3, 3, 3])
+        day.phase = 3
         self.assertEqual([day.absorb(bytes(size)) for size in (0, 1, 8301, 26_001)], [5, 5, 5, 5])
 
     def test_the_last_bytes(self):
@@ -240,18 +342,24 @@ class Day(unittest.TestCase):
         for _ in range(2):
             day.absorb(reference.ptn(8200))
         for size, status in ((8301, 8), (1592, 2), (1591, 2), (1590, 2), (1589, 2)):
-            before = [day.phase, day.absorbed, day.squeezed, *(dict(vars(sponge)) for sponge in day.sponges())]
+            before = fields(day)
             self.assertEqual(day.absorb(reference.ptn(size)), status)
-            self.assertEqual([day.phase, day.absorbed, day.squeezed, *(vars(sponge) for sponge in day.sponges())], before)
+            self.assertEqual(fields(day), before)
         self.assertEqual((day.absorb(reference.ptn(1588)), day.absorbed), (0, 26_000))
 
     def test_name(self):
-        """The station's name is the customization string."""
-        day = transcript.book_of(4)
-        for event in (b"one\n", b"", b"two\n"):
-            day.absorb(event)
-        self.assertEqual([day.finalize(bytes(65_536)), day.finalize(b"station"), day.finalize(b"station")], [4, 0, 3])
-        self.assertEqual(day.squeeze(32), (0, reference.kt128(b"one\n\x04\x01\x00two\n\x04\x01", b"station", 32)))
+        """The station's name is the customization string, whole or in pieces."""
+        digest = reference.kt128(b"one\n\x04\x01\x00two\n\x04\x01", b"station", 32)
+        for whole in (True, False):
+            day = ShortDayTranscript(168)
+            for event in (b"one\n", b"", b"two\n"):
+                day.absorb(event)
+            self.assertEqual(day.finalize(bytes(CUSTOM_LIMIT + 1)), 4)
+            if whole:
+                self.assertEqual([day.finalize(b"station"), day.finalize(b"station")], [0, 3])
+            else:
+                self.assertEqual([day.customize(b"sta"), day.customize(b"tion"), day.finish(), day.finish()], [0, 0, 0, 3])
+            self.assertEqual(day.squeeze(32), (0, digest))
 
     def test_same_as_a_kt_run(self):
         """A day's fields are those of a KT128 run that took the day's message in one piece."""
@@ -261,58 +369,7 @@ class Day(unittest.TestCase):
             for event in events:
                 day.absorb(event)
             run.absorb(reference.day_message(events))
-            self.assertEqual(day.absorbed, run.absorbed)
-            self.assertEqual([vars(sponge) for sponge in day.sponges()], [vars(sponge) for sponge in run.sponges()])
-
-
-class OneGo(unittest.TestCase):
-    def test_order_of_the_refusals(self):
-        over = 4_294_967_296
-        self.assertEqual(transcript.one_go_status(over, 0x80, 0), 1)
-        self.assertEqual(transcript.one_go_status(over, 0x7F, 0), 2)
-        self.assertEqual(transcript.one_go_status(over - 1, 0x01, 0), 7)
-        self.assertEqual(transcript.one_go_status(over - 1, 0x01, over), 6)
-        self.assertEqual(transcript.one_go_status(over - 1, 0x01, over - 1), 0)
-
-    def test_order_of_the_kt_refusals(self):
-        over = 4_294_967_296
-        self.assertEqual(transcript.kt_one_go_status(over, bytes(65_536), 0), 2)
-        self.assertEqual(transcript.kt_one_go_status(over - 1, bytes(65_536), 0), 4)
-        self.assertEqual(transcript.kt_one_go_status(over - 1, bytes(65_536), over), 4)
-        self.assertEqual(transcript.kt_one_go_status(over - 1, bytes(65_535), 0), 7)
-        self.assertEqual(transcript.kt_one_go_status(over - 1, bytes(65_535), over), 6)
-        self.assertEqual(transcript.kt_one_go_status(over - 1, bytes(65_535), over - 1), 0)
-
-    def test_order_of_the_hopmac_refusals(self):
-        """The key and the message are each held to the limit of 2; a tag is never so long that 6 is due."""
-        over, long, taken = 4_294_967_296, bytes(65_536), bytes(65_535)
-        for sizes in ((over, 0), (0, over), (over, over)):
-            self.assertEqual([transcript.hopmac_status(*sizes, long, size) for size in (0, 1, over)], [2, 2, 2])
-            self.assertEqual([transcript.verify_status(*sizes, long, size) for size in (0, 1, 65)], [2, 2, 2])
-        self.assertEqual([transcript.hopmac_status(over - 1, over - 1, long, size) for size in (0, 1, over)], [4, 4, 4])
-        self.assertEqual([transcript.hopmac_status(over - 1, over - 1, taken, size) for size in (0, over, 1, over - 1)], [7, 6, 0, 0])
-        self.assertEqual([transcript.verify_status(over - 1, over - 1, long, size) for size in (0, 1, 64, 65)], [4, 4, 4, 4])
-        self.assertEqual([transcript.verify_status(over - 1, 0, taken, size) for size in (0, 1, 64, 65, over)], [7, 0, 0, 7, 7])
-
-    def test_tag_check(self):
-        for strength, function in enumerate((reference.hopmac128, reference.hopmac256)):
-            tag = function(b"key", b"message", b"abc", 65)
-            self.assertEqual(transcript.hopmac_one_go(strength, b"key", b"message", b"abc", 65), (0, tag))
-            said = [transcript.verify(strength, b"key", b"message", b"abc", tag[:size]) for size in (0, 1, 63, 64, 65)]
-            self.assertEqual(said, [(7, False), (0, True), (0, True), (0, True), (7, False)])
-            self.assertEqual(transcript.verify(strength, b"key", b"message", b"abc", tag[:31] + bytes([tag[31] ^ 1])), (0, False))
-            self.assertEqual(transcript.verify(strength, b"message", b"key", b"abc", tag[:32]), (0, False))
-            self.assertEqual(transcript.verify(1 - strength, b"key", b"message", b"abc", tag[:32]), (0, False))
-            self.assertEqual(transcript.verify(strength, b"key", b"message", bytes(65_536), tag[:32]), (4, False))
-            self.assertEqual(transcript.hopmac_one_go(strength, b"key", b"message", bytes(65_536), 32), (4, None))
-
-    def test_same_as_the_run(self):
-        for function, rate in KT.items():
-            for size, custom in ((0, 0), (8191, 0), (8192, 0), (8192, 8189), (8192, 8190), (100, 20_000)):
-                run = KtRun(rate)
-                run.absorb(reference.ptn(size))
-                run.finalize(reference.ptn(custom))
-                self.assertEqual(transcript.kt_one_go(rate, reference.ptn(size), reference.ptn(custom), 300), run.squeeze(300), function)
+            self.assertEqual(fields(day), fields(run))
 
 
 if __name__ == "__main__":

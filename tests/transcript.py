@@ -2,7 +2,10 @@
 
 `Transcript`, `KtTranscript` and `DayTranscript` are the books: they get the arguments of each call alone, and say its status and its
 bytes. `Run`, `KtRun` and `DayRun` have the fields of a run, so they also answer for one whose fields were overwritten, of which the book
-says nothing. The calls in one go follow them. Written from documents 01 and 02 and the draft, never from the Rattle sources.
+says nothing. one_go.py has the calls in one go. Written from documents 01 and 02 and the draft, never from the Rattle sources.
+
+A KT run and a day have a customization phase (request Q-2): `customize` takes a piece of C, `finish` closes the run with the C so taken,
+`finalize` closes a run in the message phase with a whole C.
 """
 import reference
 
@@ -11,9 +14,7 @@ KT = {2: 168, 3: 136}  # those of 2 and 3: KT128 and KT256
 DAY = {4: 168}  # that of 4: the journal, which is KT128's
 RATES = TURBOSHAKE | KT | DAY
 CHAINING = {168: 32, 136: 64}  # the chaining length of each strength, by its rate
-HOPMAC = {0: reference.hopmac128, 1: reference.hopmac256}  # by the number of the strength
-LONGEST_TAG = 64  # of those that the tag check takes
-ABSORBING, FINALIZED = 0, 1
+ABSORBING, FINALIZED, CUSTOMIZING = 0, 1, 2  # the last is none of TurboSHAKE's
 DONE, BAD_DOMAIN, TOO_LONG, WRONG_PHASE, CUSTOM_TOO_LONG, NOT_REACHED, TOO_MUCH, BAD_SIZE, EVENT_TOO_LONG = range(9)
 SINGLE_NODE, INTERMEDIATE_NODE, FINAL_NODE = 0x07, 0x0B, 0x06
 FIRST_CHUNK_END = b"\x03" + bytes(7)
@@ -25,23 +26,22 @@ def domain_status(domain):
     return DONE if 0x01 <= domain <= 0x7F else BAD_DOMAIN
 
 
-def custom_status(custom):
-    """Answer 4: the customization string is longer than 65,535 bytes."""
-    return CUSTOM_TOO_LONG if len(custom) > 65_535 else DONE
-
-
 class Limits:
-    """The most bytes that a run takes and gives, and that an event has. A test may lower them to reach them."""
+    """The most bytes that a run takes and gives, and that a customization string and an event have. A test may lower them to reach them."""
 
-    ABSORB_LIMIT = 4_294_967_295
+    ABSORB_LIMIT = 17_179_869_183
     SQUEEZE_LIMIT = 4_294_967_295
+    CUSTOM_LIMIT = 16_777_215
     EVENT_LIMIT = 65_535
+
+
+def custom_status(size, limit=Limits.CUSTOM_LIMIT):
+    """Answer 4: the customization string is longer than its limit."""
+    return CUSTOM_TOO_LONG if size > limit else DONE
 
 
 class Transcript(Limits):
     """The book of one run: the bytes fed, the phase, the argument of the finalize, the number of bytes read."""
-
-    argument_status = staticmethod(domain_status)
 
     def __init__(self, rate):
         self.rate = rate
@@ -50,6 +50,12 @@ class Transcript(Limits):
         self.argument = None
         self.read = 0
         self.output = b""  # the first bytes of the published output, as many as were worked out
+
+    def totals(self):
+        return len(self.fed), self.read
+
+    def argument_status(self, domain):
+        return domain_status(domain)
 
     def absorb(self, piece):
         if self.phase != ABSORBING:
@@ -87,9 +93,32 @@ class Transcript(Limits):
 
 
 class KtTranscript(Transcript):
-    """The book of a KT run: the argument of the finalize is the customization string."""
+    """The book of a KT run: the argument of the finalize is the customization string C, which may also come before it in pieces."""
 
-    argument_status = staticmethod(custom_status)
+    def __init__(self, rate):
+        super().__init__(rate)
+        self.argument = bytearray()
+
+    def totals(self):
+        return *super().totals(), len(self.argument)
+
+    def argument_status(self, custom):
+        return custom_status(len(custom), self.CUSTOM_LIMIT)
+
+    def customize(self, piece):
+        if self.phase == FINALIZED:
+            return WRONG_PHASE
+        if len(self.argument) + len(piece) > self.CUSTOM_LIMIT:
+            return CUSTOM_TOO_LONG
+        self.phase = CUSTOMIZING
+        self.argument += piece
+        return DONE
+
+    def finish(self):
+        if self.phase != CUSTOMIZING:
+            return WRONG_PHASE
+        self.phase = FINALIZED
+        return DONE
 
     def published(self, size):
         return reference.kangarootwelve(self.rate, CHAINING[self.rate], self.fed, self.argument, size)
@@ -158,7 +187,7 @@ class Run(Limits):
     """The fields of a run, and what each call does to them."""
 
     SPONGE = Sponge
-    argument_status = staticmethod(domain_status)
+    PHASES = ABSORBING, FINALIZED
 
     def __init__(self, rate):
         self.rate = rate
@@ -167,8 +196,14 @@ class Run(Limits):
         self.squeezed = 0
         self.node = self.SPONGE(rate)  # the final node of a KT run; the only sponge of a TurboSHAKE run
 
+    def totals(self):
+        return self.absorbed, self.squeezed
+
     def sponges(self):
         return (self.node,)
+
+    def argument_status(self, domain):
+        return domain_status(domain)
 
     def positions_due(self):
         """The position of each sponge of a run that has this phase and these totals."""
@@ -178,15 +213,15 @@ class Run(Limits):
         """Whether calls from a fresh run reach this phase, these totals and positions together. The lanes are not looked at."""
         if self.absorbed > self.ABSORB_LIMIT or self.squeezed > self.SQUEEZE_LIMIT:
             return False
-        if self.phase not in (ABSORBING, FINALIZED) or (self.phase == ABSORBING and self.squeezed):
+        if self.phase not in self.PHASES or (self.phase != FINALIZED and self.squeezed):
             return False
         return tuple(sponge.position for sponge in self.sponges()) == self.positions_due()
 
-    def refusal(self, phase):
-        """The answers that come before all others, for a call that belongs to `phase`; 0 where neither is due."""
+    def refusal(self, *phases):
+        """The answers that come before all others, for a call that belongs to these phases; 0 where neither is due."""
         if not self.is_reached():
             return NOT_REACHED
-        return DONE if self.phase == phase else WRONG_PHASE
+        return DONE if self.phase in phases else WRONG_PHASE
 
     def absorb(self, piece):
         status = self.refusal(ABSORBING)
@@ -222,30 +257,61 @@ class Run(Limits):
 
 
 class KtRun(Run):
-    """The fields of a KT run: a second sponge for the leaf in hand."""
+    """The fields of a KT run: a third total, the customization bytes, and a second sponge for the leaf in hand."""
 
     CHUNK = reference.CHUNK
-    argument_status = staticmethod(custom_status)
+    PHASES = ABSORBING, FINALIZED, CUSTOMIZING
 
     def __init__(self, rate):
         super().__init__(rate)
+        self.customized = 0  # in the message phase; the length of C once the run is closed, by either close
         self.leaf = self.SPONGE(rate)
         self.chaining = CHAINING[rate]
+
+    def totals(self):
+        return *super().totals(), self.customized
 
     def sponges(self):
         return self.node, self.leaf
 
+    def argument_status(self, custom):
+        return custom_status(len(custom), self.CUSTOM_LIMIT)
+
     def positions_due(self):
-        if self.phase != ABSORBING:
+        if self.phase not in (ABSORBING, CUSTOMIZING):
             return position_after(self.rate, self.squeezed), 0
-        if self.absorbed <= self.CHUNK:
-            return position_after(self.rate, self.absorbed), 0
-        closed = (self.absorbed - 1) // self.CHUNK  # the chunk in hand is closed only when the next one's first byte comes
+        merged = self.absorbed + (self.customized if self.phase == CUSTOMIZING else 0)  # the bytes of S so far
+        if merged <= self.CHUNK:
+            return position_after(self.rate, merged), 0
+        closed = (merged - 1) // self.CHUNK  # the chunk in hand is closed only when the next one's first byte comes
         node = self.CHUNK + len(FIRST_CHUNK_END) + (closed - 1) * self.chaining
-        return position_after(self.rate, node), position_after(self.rate, self.absorbed - closed * self.CHUNK)
+        return position_after(self.rate, node), position_after(self.rate, merged - closed * self.CHUNK)
+
+    def is_reached(self):
+        if self.customized > self.CUSTOM_LIMIT or (self.phase == ABSORBING and self.customized):
+            return False
+        return super().is_reached()
+
+    def customize(self, piece):
+        status = self.refusal(ABSORBING, CUSTOMIZING) or custom_status(self.customized + len(piece), self.CUSTOM_LIMIT)
+        if status == DONE:
+            self.phase = CUSTOMIZING
+            self.take_custom(piece)
+        return status
+
+    def finish(self):
+        status = self.refusal(CUSTOMIZING)
+        if status == DONE:
+            self.end()
+            self.phase = FINALIZED
+        return status
 
     def take(self, piece):
         self.feed(self.absorbed, piece)
+
+    def take_custom(self, piece):
+        self.feed(self.absorbed + self.customized, piece)
+        self.customized += len(piece)
 
     def feed(self, start, data):
         """Takes the bytes of S from byte `start` on."""
@@ -268,10 +334,14 @@ class KtRun(Run):
         self.leaf = self.SPONGE(self.rate)
 
     def close(self, custom):
-        """The leaf is fresh afterwards, so that in a finalized run its position says nothing."""
-        rest = custom + reference.length_encode(len(custom))
-        self.feed(self.absorbed, rest)
-        last = (self.absorbed + len(rest) - 1) // self.CHUNK
+        self.take_custom(custom)
+        self.end()
+
+    def end(self):
+        """What follows C. The leaf is fresh afterwards, so that in a finalized run its position says nothing."""
+        start, rest = self.absorbed + self.customized, reference.length_encode(self.customized)
+        self.feed(start, rest)
+        last = (start + len(rest) - 1) // self.CHUNK
         if last == 0:
             self.node.pad(SINGLE_NODE)
         else:
@@ -300,55 +370,3 @@ def book_of(function):
 
 def run_of(function):
     return KINDS[function][1](RATES[function])
-
-
-def lengths_status(message_size, size):
-    """The answers of a one-go call that its lengths decide: 2, 7 and 6."""
-    if message_size > Limits.ABSORB_LIMIT:
-        return TOO_LONG
-    if size == 0:
-        return BAD_SIZE
-    return TOO_MUCH if size > Limits.SQUEEZE_LIMIT else DONE
-
-
-def one_go_status(message_size, domain, size):
-    """The status of a TurboSHAKE call in one go: 1, 2, 7, 6, in this order."""
-    return domain_status(domain) or lengths_status(message_size, size)
-
-
-def kt_one_go_status(message_size, custom, size):
-    """The status of a KT call in one go: 2, 4, 7, 6, in this order."""
-    status = lengths_status(message_size, size)
-    return status if status == TOO_LONG else custom_status(custom) or status
-
-
-def one_go(rate, message, domain, size):
-    """The status of a one-go call, and the bytes that a done one gives."""
-    status = one_go_status(len(message), domain, size)
-    return status, reference.turboshake(rate, message, domain, size) if status == DONE else None
-
-
-def kt_one_go(rate, message, custom, size):
-    status = kt_one_go_status(len(message), custom, size)
-    return status, reference.kangarootwelve(rate, CHAINING[rate], message, custom, size) if status == DONE else None
-
-
-def hopmac_status(key_size, message_size, custom, size):
-    """The status of a HopMAC call in one go, in KT's order; the longer of key and message decides 2."""
-    return kt_one_go_status(max(key_size, message_size), custom, size)
-
-
-def verify_status(key_size, message_size, custom, tag_size):
-    """The status of the tag check: 2, 4, 7, in this order. A tag that is too long answers 7 as one of no bytes does."""
-    return hopmac_status(key_size, message_size, custom, tag_size if tag_size <= LONGEST_TAG else 0)
-
-
-def hopmac_one_go(strength, key, message, custom, size):
-    status = hopmac_status(len(key), len(message), custom, size)
-    return status, HOPMAC[strength](key, message, custom, size) if status == DONE else None
-
-
-def verify(strength, key, message, custom, tag):
-    """The status of the tag check, and whether it says yes."""
-    status = verify_status(len(key), len(message), custom, len(tag))
-    return status, status == DONE and HOPMAC[strength](key, message, custom, len(tag)) == tag
