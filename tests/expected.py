@@ -8,13 +8,14 @@
 import functools
 import sys
 
+import one_go
 import reference
 import transcript
 import vectors
 
 BEFORE = b"\xa5"  # each byte of the program's output buffer before the calls
 CHUNK = reference.CHUNK
-CUSTOMS = (0, 1, 255, 256, 65_535, 65_536)  # the last is refused
+CUSTOMS = (0, 1, 255, 256, 65_535, 65_536)  # both sides of a length of one byte, and of one of two
 STATION = b"Hanbeorit station 3"
 # of the day; the third is empty, the fourth what a sensor gave, without a line end
 EVENTS = (b"06:00 pump 3 on\n", b"06:02 level 3 at 41 cm\n", b"", reference.ptn(9000), b"22:00 pump 3 off\n")
@@ -24,14 +25,14 @@ def vectors_output():
     """A line for each vector: function, kind and length of the message, domain byte, length asked, the bytes that the draft prints.
 
     The KT vectors follow in the draft's order, KT128's and then KT256's. In place of the domain byte they have the length of C, in decimal;
-    C is ptn. Those whose C is longer than 65,535 bytes have `status 4` in place of the bytes. Source document 003 adds none to these:
-    test_reference.py holds each of its vectors to be among them.
+    C is ptn. The last eight of each, those with a C and those around a chunk's end, have the bytes three times with a space between: from a
+    run closed with the whole C, from one that took C in pieces before the new close, and from the call in one go. Source document 003 adds
+    none to these: test_reference.py holds each of its vectors to be among them.
     """
     lines = [f"{v.function} {v.kind} {v.size} {v.domain:02x} {v.length} {v.digest.hex()}" for v in vectors.turboshake()]
     for v in vectors.kt():
-        status = transcript.custom_status(bytes(v.custom))
-        answer = f"status {status}" if status else v.digest.hex()
-        lines.append(f"{v.function} {v.kind} {v.size} {v.custom} {v.length} {answer}")
+        ways = 3 if v.custom or v.size in (CHUNK - 1, CHUNK) else 1
+        lines.append(f"{v.function} {v.kind} {v.size} {v.custom} {v.length} {' '.join(ways * [v.digest.hex()])}")
     return "\n".join(lines) + "\n"
 
 
@@ -133,16 +134,16 @@ def edges_output():
 
     with one space between, lengths and statuses in decimal, bytes in lower-case hex. M is the first M bytes of ptn, C the first C bytes
     of ptn. `one` is the one-go call; `cut` a run that absorbs M in pieces, is finalized with C and squeezed in pieces. Each has a buffer of
-    its own of ASKED bytes, all A5 before the calls, and prints it after them. A C of 65,536 bytes answers 4 and leaves it.
+    its own of ASKED bytes, all A5 before the calls, and prints it after them.
     """
     lines = []
     for function, rate in (("TurboSHAKE128", 168), ("TurboSHAKE256", 136)):
         for size, domain, asked in edges_of(rate):
-            status, out = transcript.one_go(rate, reference.ptn(size), domain, asked)
+            status, out = one_go.turboshake(rate, reference.ptn(size), domain, asked)
             lines += [f"{function} {way} {size} {domain:02x} {asked} {status} {digits_of(out, asked)}" for way in ("one", "cut")]
     for function, rate in (("KT128", 168), ("KT256", 136)):
         for size, custom, asked in kt_edges_of(rate):
-            status, out = transcript.kt_one_go(rate, reference.ptn(size), reference.ptn(custom), asked)
+            status, out = one_go.kt(rate, reference.ptn(size), reference.ptn(custom), asked)
             answer = f"{status} {digits_of(out, asked)}"
             lines.append(f"{function} {size} {custom} {asked} one {answer} cut {answer}")
     return "\n".join(lines) + "\n"

@@ -35,12 +35,20 @@ class Output(unittest.TestCase):
         self.assertEqual((crate / "stdout").read_text(), reference.kt128(reference.ptn(17**3), b"", 32).hex() + "\n")
 
     def test_vectors(self):
-        """The draft has 16 vectors of TurboSHAKE128 and 15 of TurboSHAKE256, and 18 of each KT, of which one is refused here."""
-        lines = expected.vectors_output().splitlines()
-        names = [line.split()[0] for line in lines]
+        """The draft has 16 vectors of TurboSHAKE128 and 15 of TurboSHAKE256, and 18 of each KT. None is refused here.
+
+        The last eight of each KT have their bytes three times, every other line once.
+        """
+        lines = [line.split(" ") for line in expected.vectors_output().splitlines()]
+        names = [name for name, *_ in lines]
         self.assertEqual(names, ["TurboSHAKE128"] * 16 + ["TurboSHAKE256"] * 15 + ["KT128"] * 18 + ["KT256"] * 18)
-        refused = ["KT128 ff 7 68921 32 status 4", "KT256 ff 7 68921 64 status 4"]
-        self.assertEqual([line for line in lines if "status" in line], refused)
+        ways = [1] * 31 + 2 * ([1] * 10 + [3] * 8)
+        self.assertEqual([len(line) for line in lines], [5 + count for count in ways])
+        for line in lines:
+            self.assertEqual(len(set(line[5:])), 1)
+            self.assertGreaterEqual(len(bytes.fromhex(line[5])), 32)
+        thrice = ["ptn 0 1", "ff 1 41", "ff 3 1681", "ff 7 68921", "ptn 8191 0", "ptn 8192 0", "ptn 8192 8189", "ptn 8192 8190"]
+        self.assertEqual([" ".join(line[1:4]) for line in lines if len(line) == 8], 2 * thrice)
 
     def test_day(self):
         """Shift and clerk come to the same digits; the day's message, 9,066 bytes, and the name are two chunks."""
@@ -75,7 +83,8 @@ class Nodes(unittest.TestCase):
 
     def test_no_final_node_is_one_byte_short(self):
         """None of several chunks is one byte short of whole blocks: all lengths are multiples of 8 but that of the end, 4 to 6 bytes."""
-        most = (4_294_967_295 + 65_535 + 3 - 1) // reference.CHUNK
+        longest = transcript.Limits.ABSORB_LIMIT + transcript.Limits.CUSTOM_LIMIT
+        most = (longest + len(reference.length_encode(transcript.Limits.CUSTOM_LIMIT)) - 1) // reference.CHUNK
         ends = {len(reference.length_encode(n)) + 2 for n in (1, 255, 256, 65_535, 65_536, most)}
         self.assertEqual(ends, {4, 5, 6})
         for rate, chaining in transcript.CHAINING.items():
