@@ -2,15 +2,17 @@
 import random
 
 import reference
-from replay import ABSORBED, LANES, LEAF_LANES, LEAF_POSITION, PHASE, POSITION, SEED, SQUEEZED, Calls
-from transcript import ABSORBING, KT, Limits
+from replay import ABSORBED, CUSTOMIZED, LANES, LEAF_LANES, LEAF_POSITION, MOST, PHASE, POSITION, SEED, SQUEEZED, Calls
+from transcript import ABSORBING, CUSTOMIZING, FINALIZED, KT, Limits
 
 CHUNK = reference.CHUNK
 LIMIT = Limits.ABSORB_LIMIT
+SQUEEZE_LIMIT = Limits.SQUEEZE_LIMIT
+CUSTOM_LIMIT = Limits.CUSTOM_LIMIT
 BIG = (1 << 64) - 1
-# A message is the beginning of one of these: the states after its blocks are then worked out once, and kept.
+# A message is the beginning of one of these, a C that of CUSTOM: the states after its blocks are then worked out once, and kept.
 STREAMS = [random.Random(SEED + i).randbytes(210_000) for i in range(3)]
-CUSTOM = random.Random(SEED + 3).randbytes(65_536)
+CUSTOM = random.Random(SEED + 3).randbytes(MOST)
 
 
 def near(total, unit):
@@ -34,8 +36,13 @@ def length(source, rate, total):
     return source.randrange(1000, 10_000)
 
 
+def event_of(size):
+    """The length of the longest event that adds at most so many bytes to a day; 0 where not even an empty one does."""
+    return max([0, *(n for n in range(size - 3, size) if n + len(reference.length_encode(n)) <= size)])
+
+
 def custom(source, total):
-    """A customization string that is taken: of a length of document 01, some, or one with which S ends around a chunk's end."""
+    """A whole customization string: of a length of document 01, some, one with which S ends around a chunk's end, or a long one."""
     kind = source.randrange(100)
     if kind < 55:
         return CUSTOM[: source.choice((0, 0, 1, 255, 256))]
@@ -43,20 +50,28 @@ def custom(source, total):
         return CUSTOM[: source.randrange(5000)]
     if kind < 98:
         return CUSTOM[: max(0, -total % CHUNK - source.randrange(-1, 6))]
-    return CUSTOM[:65_535]
+    return CUSTOM[: source.choice((65_535, 65_536))]
 
 
 def asked(source, rate, total):
     return source.choice((0, 1, 32, source.randrange(600), *near(total, rate)))
 
 
-def total(source, rate):
-    """A number of bytes absorbed or squeezed: around a chunk's or a block's end, around the limit, seldom one past it."""
-    chunk = CHUNK * source.choice((1, 2, 3, source.randrange(1, 524_288)))
+def total(source, rate, limit):
+    """A number of bytes: around a chunk's or a block's end, around the limit, seldom one past it."""
+    chunk = CHUNK * source.choice((1, 2, 3, source.randrange(1, limit // CHUNK)))
     block = rate * source.randrange(1, 5)
     some = source.choice((0, 1, source.randrange(700)))
-    inside = (0, some, chunk - 1, chunk, chunk + 1, chunk + some, block, chunk + block, LIMIT, LIMIT - some)
-    return source.choice((*inside, LIMIT + 1 + some, BIG - some))
+    inside = (0, some, chunk - 1, chunk, chunk + 1, chunk + some, block, chunk + block, limit, limit - some)
+    return source.choice((*inside, limit + 1 + some, BIG - some))
+
+
+def custom_total(source, rate, absorbed):
+    """A number of customization bytes: one of those, or one with which the bytes of S so far end around a chunk's or a block's end."""
+    if source.randrange(2):
+        return total(source, rate, CUSTOM_LIMIT)
+    some = source.choice((0, source.randrange(CUSTOM_LIMIT - 2 * CHUNK)))
+    return some + source.choice(near(absorbed + some, source.choice((rate, CHUNK))))
 
 
 def fit(calls):
@@ -68,9 +83,10 @@ def fit(calls):
 def overwrite(source, calls):
     """Writes the fields, often so that answer 5 lets them pass, and some lanes of both sponges."""
     rate, run = calls.rate, calls.run
-    calls.set(PHASE, source.choice((0, 0, 0, 0, 0, 1, 1, 1, 1, 2, source.randrange(256))))
-    calls.set(ABSORBED, total(source, rate))
-    calls.set(SQUEEZED, 0 if run.phase == ABSORBING and source.randrange(8) else total(source, rate))
+    calls.set(PHASE, source.choice((*4 * (ABSORBING, FINALIZED, CUSTOMIZING), 3, source.randrange(256))))
+    calls.set(ABSORBED, total(source, rate, LIMIT))
+    calls.set(SQUEEZED, 0 if run.phase != FINALIZED and source.randrange(8) else total(source, rate, SQUEEZE_LIMIT))
+    calls.set(CUSTOMIZED, 0 if run.phase == ABSORBING and source.randrange(8) else custom_total(source, rate, run.absorbed))
     for field, right in zip((POSITION, LEAF_POSITION), run.positions_due()):
         wrong = (right + 1, abs(right - 1), 0, rate, rate + 1, 200, BIG, source.getrandbits(64))
         calls.set(field, right if source.randrange(9) else source.choice(wrong))
@@ -84,6 +100,7 @@ class KtLists:
 
     FUNCTIONS = 2, 3
     LONGEST = 45_000  # of the messages: six chunks
+    LONGEST_CUSTOM = 30_000  # of the customization strings that come in pieces
     KINDS = {"reached_list": 20, "overwritten_list": 30, "steps_list": 3, "other_list": 2, "one_go": 10}  # how often each comes
 
     def __init__(self):
@@ -114,30 +131,54 @@ class KtLists:
         if source.randrange(12) == 0:
             self.calls.one_go(function - 2, STREAMS[0][: source.randrange(300)], 0x1F, 40)
         message = STREAMS[source.randrange(3)][: source.choice((0, 1, CHUNK, 2 * CHUNK)) + length(source, rate, 0)]
-        last = CUSTOM if source.randrange(8) == 0 else custom(source, len(message))
-        self.calls.kt_one_go(function, message, last, 0 if source.randrange(6) == 0 else asked(source, rate, 0))
+        self.calls.kt_one_go(function, message, custom(source, len(message)), 0 if source.randrange(6) == 0 else asked(source, rate, 0))
+
+    def small(self, data):
+        """The first bytes, few or none, for a call that is to be refused."""
+        return data[: self.source.choice((0, 1, 32, self.source.randrange(400)))]
 
     def absorbing(self, stream):
-        """One call, seldom one that the phase or the customization string refuses."""
+        """One call, seldom one that the phase refuses."""
         kind = self.source.randrange(100)
-        if kind < 88:
+        if kind < 86:
             self.calls.absorb(self.piece(stream))
-        elif kind < 94:
-            self.calls.squeeze(self.source.choice((0, 1, 32, self.source.randrange(400))))
+        elif kind < 92:
+            self.calls.squeeze(len(self.small(stream)))
         elif kind < 96:
-            self.calls.finalize(CUSTOM)
+            self.calls.finish()
+        else:
+            self.one_go()
+
+    def customizing(self, stream):
+        """A customization piece, often one that ends at the edge of a block or of a chunk of S; seldom a call that the phase refuses."""
+        source, calls = self.source, self.calls
+        at = calls.run.customized
+        kind = source.randrange(100)
+        if kind < 70:
+            size = length(source, calls.rate, calls.run.absorbed + at)
+            calls.customize(CUSTOM[at : at + min(size, self.LONGEST_CUSTOM - at)])
+        elif kind < 80:
+            calls.absorb(self.small(stream))
+        elif kind < 90:
+            calls.finalize(self.small(CUSTOM))
+        elif kind < 97:
+            calls.squeeze(len(self.small(stream)))
         else:
             self.one_go()
 
     def squeezing(self, stream):
         source, calls = self.source, self.calls
         kind = source.randrange(100)
-        if kind < 82:
+        if kind < 76:
             calls.squeeze(asked(source, calls.rate, calls.run.squeezed))
-        elif kind < 90:
-            calls.absorb(stream[: source.choice((0, 1, source.randrange(400)))])
+        elif kind < 82:
+            calls.absorb(self.small(stream))
+        elif kind < 87:
+            calls.finalize(self.small(CUSTOM))
+        elif kind < 92:
+            calls.customize(self.small(CUSTOM))
         elif kind < 97:
-            calls.finalize(CUSTOM[: source.choice((0, 1, 300, 65_536))])
+            calls.finish()
         else:
             self.one_go()
 
@@ -150,18 +191,28 @@ class KtLists:
             if self.source.randrange(60) == 0:
                 self.calls.rebuild(lambda fields: self.source.sample(fields, len(fields)))
 
+    def closed(self, stream):
+        """Closes the run: with a whole C or, after a phase of pieces, the first of which is often empty, by the new close."""
+        source, calls = self.source, self.calls
+        if source.randrange(2):
+            return calls.finalize(custom(source, calls.run.absorbed))
+        first = custom(source, calls.run.absorbed) if source.randrange(2) else b""
+        calls.customize(first[: self.LONGEST_CUSTOM])
+        self.many(self.customizing, stream, (0, 1, 2, 4, 8))
+        calls.finish()
+
     def reached_list(self):
         """A list from a fresh run, never overwritten."""
         stream = self.source.choice(STREAMS)
         self.fresh()
         self.many(self.absorbing, stream, (0, 1, 2, 5, 10, 20))
         if self.source.randrange(20):
-            self.calls.finalize(custom(self.source, self.calls.run.absorbed))
+            self.closed(stream)
             self.many(self.squeezing, stream, (0, 2, 4, 8))
         self.calls.dump()
 
     def steps_list(self):
-        """Byte by byte over the end of a chunk, with a dump after each."""
+        """Byte by byte over the end of a chunk, with a dump after each; the last bytes are the message's or, after some, C's."""
         source, calls = self.source, self.calls
         stream = source.choice(STREAMS)
         self.fresh()
@@ -170,7 +221,13 @@ class KtLists:
         for at in range(start, start + source.randrange(2, 7)):
             calls.absorb(stream[at : at + self.filling(1)])
             calls.dump()
-        calls.finalize(CUSTOM[: source.randrange(4)])
+        if source.randrange(2):
+            calls.finalize(CUSTOM[: source.randrange(4)])
+        else:
+            for at in range(source.randrange(1, 7)):
+                calls.customize(CUSTOM[at : at + source.choice((0, 1, 1))])
+                calls.dump()
+            calls.finish()
         calls.dump()
         calls.squeeze(32)
 
@@ -185,20 +242,28 @@ class KtLists:
         calls.dump()
 
     def overwritten_call(self):
-        """A call on such a run: one that just reaches the limit, one that passes it, or any other."""
+        """A call on such a run: one of its phase that just reaches the limit or passes it, or any other."""
         source, calls, run = self.source, self.calls, self.calls.run
-        reached = run.absorbed if run.phase == ABSORBING else run.squeezed
-        left = LIMIT - reached
-        size = length(source, calls.rate, reached) if run.phase == ABSORBING else asked(source, calls.rate, reached)
-        if 0 <= left < 1000 and source.randrange(2):
-            size = left + source.choice((0, 0, 1, 1, 2, 600))
-        kind = source.randrange(10)
-        if kind == 0:
-            calls.finalize(CUSTOM if source.randrange(4) == 0 else custom(source, run.absorbed))
-        elif kind < 6:
-            calls.absorb(STREAMS[0][: self.filling(size)])
+        if run.phase == ABSORBING:
+            kind, left, size = "absorb", LIMIT - run.absorbed, length(source, calls.rate, run.absorbed)
+        elif run.phase == CUSTOMIZING:
+            kind, left, size = "customize", CUSTOM_LIMIT - run.customized, length(source, calls.rate, run.absorbed + run.customized)
         else:
+            kind, left, size = "squeeze", SQUEEZE_LIMIT - run.squeezed, asked(source, calls.rate, run.squeezed)
+        if 0 <= left < 1000 and source.randrange(3):
+            size = left + source.choice((0, 0, 1, 1, 2, 600))
+        else:
+            kind = source.choice(("finalize", "finish", *4 * ("absorb", "customize", "squeeze")))
+        if kind == "absorb":
+            calls.absorb(STREAMS[0][: self.filling(size)])
+        elif kind == "customize":
+            calls.customize(CUSTOM[:size])
+        elif kind == "squeeze":
             calls.squeeze(size)
+        elif kind == "finalize":
+            calls.finalize(custom(source, run.absorbed))
+        else:
+            calls.finish()
 
     def overwritten_list(self):
         source, calls = self.source, self.calls
@@ -206,7 +271,7 @@ class KtLists:
         if source.randrange(3) == 0:
             calls.absorb(STREAMS[0][: length(source, calls.rate, 0)])
         if source.randrange(3) == 0:
-            calls.finalize(custom(source, calls.run.absorbed))
+            self.closed(STREAMS[0])
         for _ in range(source.randrange(1, 4)):
             overwrite(source, calls)
             for _ in range(source.randrange(2, 6)):

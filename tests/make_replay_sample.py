@@ -1,14 +1,14 @@
 #!/usr/bin/env python3
 """Writes crates/replay/stdin, a short list of calls, and crates/replay/stdout, the lines that the program `replay` must answer.
 
-Each status is written out here, by document 01's table; the bytes and the lanes are the second program's.
+Each status is written out here, by document 01's table and request Q-2; the bytes and the lanes are the second program's.
 """
 from pathlib import Path
 
 import reference
 
 CRATE = Path(__file__).resolve().parent.parent / "crates/replay"
-LIMIT = 4_294_967_295
+LIMIT, READ_LIMIT, CUSTOM_LIMIT = 17_179_869_183, 4_294_967_295, 16_777_215
 DIGEST = reference.turboshake(168, b"abc", 0x1F, 37).hex()
 BLOCK = b"abc\x1f" + bytes(163) + b"\x80" + bytes(32)  # the whole state: abc, D and 80 in the block of 168 bytes
 CLOSED = reference.keccak_p(reference.state_of(BLOCK), 12)
@@ -23,7 +23,11 @@ EVENTS = (b"06:00 pump 3 on\n", b"", b"22:00 pump 3 off\n")
 DAY = reference.day_message(EVENTS)
 STATION = b"Hanbeorit station 3"
 DAY_DIGEST = reference.kt128(DAY, STATION, 37).hex()
-LAST_NODE = (CHUNK + 8 + 524_286 * 32 - 1) % 168 + 1  # the position of the final node near the limit of what is absorbed
+# At the limit of what is absorbed the chunk in hand is number 2,097,151, one byte short of its end: the final node has 2,097,150 chaining
+# values. This is its position in KT128; in KT256 they have 64 bytes.
+LAST_NODE = (CHUNK + 8 + 2_097_150 * 32 - 1) % 168 + 1
+# The final node and the leaf of a message of no bytes once one byte is left of C: 16,777,214 bytes of S, so that chunk 2,047 lacks two.
+CUSTOM_NODE, CUSTOM_LEAF = (CHUNK + 8 + 2_046 * 32 - 1) % 168 + 1, (CHUNK - 2 - 1) % 168 + 1
 
 
 def counted(data, n=None):
@@ -74,6 +78,11 @@ def run_line(phase, *numbers):
     return f"{phase:02x} " + " ".join(f"{v:016x}" for v in numbers)
 
 
+LONG_CUSTOM = reference.ptn(65_536)
+KT_CLOSED = run_line(
+    *(1, CHUNK + 1, 37, len(CUSTOM), 37, 0), *lanes_closed(*reference.final_node(168, 32, reference.merged(MESSAGE, CUSTOM))), *[0] * 25
+)
+
 SAMPLE = [
     (record("N", b"\0"), "fresh"),
     (record("D"), run_line(0, 0, 0, 0, *[0] * 25)),
@@ -95,8 +104,8 @@ SAMPLE = [
     (one_go(1, 0x80, 4, b"abc"), "1 a5a5a5a5"),
     (one_go(1, 0x1F, 0, b"abc"), "7 "),
     # one byte more than the most that are squeezed, and than the most that are absorbed
-    (field(2, LIMIT), "set"),
-    (field(3, (LIMIT - 1) % 168 + 1), "set"),
+    (field(2, READ_LIMIT), "set"),
+    (field(3, (READ_LIMIT - 1) % 168 + 1), "set"),
     (record("R", n=1), "6 a5"),
     (record("N", b"\1"), "fresh"),
     (field(1, LIMIT), "set"),
@@ -107,38 +116,91 @@ SAMPLE = [
     (record("A", b""), "5"),
     # KT128: a full first chunk stays open until the next byte comes, which ends it and opens the leaf
     (record("N", b"\2"), "fresh"),
-    (record("D"), run_line(0, 0, 0, 0, 0, *[0] * 50)),
+    (record("D"), run_line(0, 0, 0, 0, 0, 0, *[0] * 50)),
     (record("A", MESSAGE[:100]), "0"),
     (record("A", MESSAGE[100:CHUNK]), "0"),
-    (record("D"), run_line(0, CHUNK, 0, 128, 0, *lanes_after(MESSAGE[:CHUNK]), *[0] * 25)),
+    (record("D"), run_line(0, CHUNK, 0, 0, 128, 0, *lanes_after(MESSAGE[:CHUNK]), *[0] * 25)),
     (record("A", MESSAGE[CHUNK:]), "0"),
-    (record("D"), run_line(0, CHUNK + 1, 0, 136, 1, *lanes_after(MESSAGE[:CHUNK] + b"\3" + bytes(7)), MESSAGE[CHUNK], *[0] * 24)),
+    (record("D"), run_line(0, CHUNK + 1, 0, 0, 136, 1, *lanes_after(MESSAGE[:CHUNK] + b"\3" + bytes(7)), MESSAGE[CHUNK], *[0] * 24)),
     (record("R", n=4), "3 a5a5a5a5"),
-    (record("F", bytes(65_536)), "4"),
+    # the new close is not for the message phase
+    (record("E"), "3"),
     (record("F", CUSTOM), "0"),
     (record("F", CUSTOM), "3"),
+    (record("E"), "3"),
+    (record("C", b"d"), "3"),
     (record("A", b"d"), "3"),
     (record("R", n=32), "0 " + KT_DIGEST[:64]),
     (record("R", n=5), "0 " + KT_DIGEST[64:]),
-    (record("D"), run_line(1, CHUNK + 1, 37, 37, 0, *lanes_closed(*reference.final_node(168, 32, reference.merged(MESSAGE, CUSTOM))), *[0] * 25)),
+    (record("D"), KT_CLOSED),
     (kt_one_go(2, CUSTOM, 37, MESSAGE), "0 " + KT_DIGEST),
     (kt_one_go(3, b"", 8, b""), "0 " + reference.kt256(b"", b"", 8).hex()),
     (kt_one_go(3, b"", 0, b"abc"), "7 "),
-    # at the limit the chunk in hand is number 524,287, one byte short of its end; S goes past the limit with C, M does not
+    (kt_one_go(2, LONG_CUSTOM, 8, b"abc"), "0 " + reference.kt128(b"abc", LONG_CUSTOM, 8).hex()),
+    # the same in pieces: the first, an empty one, ends the message phase, and the first byte of C ends the full chunk of the message
+    (record("N", b"\2"), "fresh"),
+    (record("A", MESSAGE[:CHUNK]), "0"),
+    (record("C", b""), "0"),
+    (record("D"), run_line(2, CHUNK, 0, 0, 128, 0, *lanes_after(MESSAGE[:CHUNK]), *[0] * 25)),
+    (record("A", b""), "3"),
+    (record("A", b"d"), "3"),
+    (record("F", b""), "3"),
+    (record("R", n=0), "3 "),
+    (record("C", b"a"), "0"),
+    (record("C", b""), "0"),
+    (record("D"), run_line(2, CHUNK, 0, 1, 136, 1, *lanes_after(MESSAGE[:CHUNK] + b"\3" + bytes(7)), ord("a"), *[0] * 24)),
+    (record("E"), "0"),
+    (record("R", n=37), "0 " + reference.kt128(MESSAGE[:CHUNK], b"a", 37).hex()),
+    # both closes leave the same run
+    (record("N", b"\2"), "fresh"),
+    (record("A", MESSAGE), "0"),
+    (record("C", CUSTOM[:2]), "0"),
+    (record("R", n=1), "3 a5"),
+    (record("C", CUSTOM[2:]), "0"),
+    (record("E"), "0"),
+    (record("E"), "3"),
+    (record("C", b""), "3"),
+    (record("R", n=37), "0 " + KT_DIGEST),
+    (record("D"), KT_CLOSED),
+    # S goes past the limit with C, M does not
     (record("N", b"\3"), "fresh"),
     (field(1, LIMIT), "set"),
-    (field(3, (CHUNK + 8 + 524_286 * 64 - 1) % 136 + 1), "set"),
+    (field(3, (CHUNK + 8 + 2_097_150 * 64 - 1) % 136 + 1), "set"),
     (field(4, (CHUNK - 1 - 1) % 136 + 1), "set"),
     (record("A", b"a"), "2"),
     (record("A", b""), "0"),
-    # no run that was reached has this position of the leaf
+    (record("C", b"ab"), "0"),
+    (record("A", b""), "3"),
+    # no run that was reached has this position of the leaf, and none has customization bytes in the message phase
     (field(4, 0), "set"),
+    (record("C", b""), "5"),
+    (record("E"), "5"),
+    (record("N", b"\3"), "fresh"),
+    (field(5, 1), "set"),
     (record("A", b""), "5"),
+    (field(5, 0), "set"),
+    (record("A", b""), "0"),
+    # one byte below the limit of C: two bytes are refused, one is taken, and no more after it
+    (record("N", b"\2"), "fresh"),
+    (field(0, 2), "set"),
+    (field(5, CUSTOM_LIMIT - 1), "set"),
+    (field(3, CUSTOM_NODE), "set"),
+    (field(4, CUSTOM_LEAF), "set"),
+    (record("C", b"ab"), "4"),
+    (record("C", b"\0"), "0"),
+    (record("C", b"\0"), "4"),
+    (record("C", b""), "0"),
+    (record("D"), run_line(2, 0, 0, CUSTOM_LIMIT, CUSTOM_NODE, CUSTOM_LEAF + 1, *[0] * 50)),
+    (record("E"), "0"),
+    (record("C", b"\0"), "3"),
+    # one byte past it, in a closed run
+    (field(5, CUSTOM_LIMIT + 1), "set"),
+    (record("R", n=0), "5 "),
     # HopMAC, and tags: right, the beginning of a right one, wrong in one bit, for another message, of no byte, too long
     (hopmac(0, KEY, CUSTOM, 64, MESSAGE), "0 " + TAG.hex()),
     (hopmac(1, KEY, b"", 64, b"abc"), "0 " + TAG_256.hex()),
     (hopmac(0, KEY, b"", 0, b"abc"), "7 "),
-    (hopmac(1, KEY, bytes(65_536), 4, b"abc"), "4 a5a5a5a5"),
+    (hopmac(1, KEY, LONG_CUSTOM, 4, b"abc"), "0 " + reference.hopmac256(KEY, b"abc", LONG_CUSTOM, 4).hex()),
     (tag_check(0, TAG, KEY, CUSTOM, MESSAGE), "0 yes"),
     (tag_check(0, TAG[:1], KEY, CUSTOM, MESSAGE), "0 yes"),
     (tag_check(1, TAG_256[:32], KEY, b"", b"abc"), "0 yes"),
@@ -149,22 +211,32 @@ SAMPLE = [
     # a day
     (record("N", b"\4"), "fresh"),
     *((record("A", event), "0") for event in EVENTS),
-    (record("D"), run_line(0, len(DAY), 0, len(DAY), 0, *lanes_after(DAY), *[0] * 25)),
+    (record("D"), run_line(0, len(DAY), 0, 0, len(DAY), 0, *lanes_after(DAY), *[0] * 25)),
     (record("R", n=1), "3 a5"),
     (record("F", STATION), "0"),
     (record("A", b"d"), "3"),
     (record("R", n=32), "0 " + DAY_DIGEST[:64]),
     (record("R", n=5), "0 " + DAY_DIGEST[64:]),
     (kt_one_go(2, STATION, 37, DAY), "0 " + DAY_DIGEST),
+    # its name in pieces, after which no event is taken, not even an empty one, and 3 wins over 8
+    (record("N", b"\4"), "fresh"),
+    *((record("A", event), "0") for event in EVENTS),
+    (record("C", STATION[:10]), "0"),
+    (record("A", b""), "3"),
+    (record("A", bytes(65_536)), "3"),
+    (record("D"), run_line(2, len(DAY), 0, 10, len(DAY) + 10, 0, *lanes_after(DAY + STATION[:10]), *[0] * 25)),
+    (record("C", STATION[10:]), "0"),
+    (record("E"), "0"),
+    (record("R", n=37), "0 " + DAY_DIGEST),
     # one byte below the limit of what is absorbed: an event of one byte needs three, an empty one the byte that is left
     (record("N", b"\4"), "fresh"),
     (field(1, LIMIT - 1), "set"),
     (field(3, LAST_NODE), "set"),
     (field(4, (CHUNK - 2 - 1) % 168 + 1), "set"),
     (record("A", b"b"), "2"),
-    (record("D"), run_line(0, LIMIT - 1, 0, LAST_NODE, 126, *[0] * 50)),
+    (record("D"), run_line(0, LIMIT - 1, 0, 0, LAST_NODE, 126, *[0] * 50)),
     (record("A", b""), "0"),
-    (record("D"), run_line(0, LIMIT, 0, LAST_NODE, 127, *[0] * 50)),
+    (record("D"), run_line(0, LIMIT, 0, 0, LAST_NODE, 127, *[0] * 50)),
     # at the limit, an event that is too long as well
     (record("A", bytes(65_536)), "8"),
     (record("A", b"a"), "2"),

@@ -1,7 +1,7 @@
 """Writes lists of calls for the program `replay` and the lines that it must answer; runs it and compares.
 
 A record is one byte op, four bytes n, and n bytes of payload (none for R), numbers most significant first. The program does one call
-for each and writes one line. What the line must say is transcript.py's to decide.
+for each and writes one line. What the line must say is for transcript.py and one_go.py to decide.
 """
 import subprocess
 import tempfile
@@ -9,6 +9,7 @@ import unittest
 from collections import Counter
 from pathlib import Path
 
+import one_go
 import transcript
 from transcript import RATES, TURBOSHAKE
 
@@ -16,8 +17,9 @@ PROGRAM = Path(__file__).resolve().parent.parent / "target/bin/replay"
 SEED = 20  # of every random list
 MOST = 262_144  # the length of the program's buffers
 BEFORE = b"\xa5"  # each byte of the buffer that a squeeze is given
-# The fields that S writes. Lane i is 64 + i; the leaf's, which only a KT run has, 96 + i.
-PHASE, ABSORBED, SQUEEZED, POSITION, LEAF_POSITION, LANES, LEAF_LANES = 0, 1, 2, 3, 4, 64, 96
+# The fields that S writes. Lane i is 64 + i; the leaf's 96 + i. A TurboSHAKE run has no leaf and no customization bytes.
+PHASE, ABSORBED, SQUEEZED, POSITION, LEAF_POSITION, CUSTOMIZED, LANES, LEAF_LANES = 0, 1, 2, 3, 4, 5, 64, 96
+NAMES = {PHASE: "phase", ABSORBED: "absorbed", SQUEEZED: "squeezed", CUSTOMIZED: "customized"}
 
 
 def counted(data, n=None):
@@ -66,10 +68,14 @@ def bytes_line(status, out, size):
     return f"{status} {(BEFORE * size if out is None else out).hex()}"
 
 
+def numbers_line(phase, *numbers):
+    return f"{phase:02x} " + " ".join(f"{v:016x}" for v in numbers)
+
+
 def dump_line(run):
+    """Phase, totals, positions, lanes."""
     sponges = run.sponges()
-    numbers = [run.absorbed, run.squeezed, *(s.position for s in sponges), *(lane for s in sponges for lane in s.lanes)]
-    return f"{run.phase:02x} " + " ".join(f"{v:016x}" for v in numbers)
+    return numbers_line(run.phase, *run.totals(), *(s.position for s in sponges), *(lane for s in sponges for lane in s.lanes))
 
 
 def difference(got, want):
@@ -115,8 +121,8 @@ class Calls:
         if status:
             self.dump()
 
-    def asked(self, name, argument):
-        return [getattr(one, name)(argument) for one in (self.book, self.run) if one]
+    def asked(self, name, *arguments):
+        return [getattr(one, name)(*arguments) for one in (self.book, self.run) if one]
 
     def absorb(self, piece):
         self.call(f"A of {len(piece)} bytes", record("A", piece), *map(str, self.asked("absorb", piece)))
@@ -129,27 +135,34 @@ class Calls:
             what, payload = f"F with C of {len(argument)} bytes", argument
         self.call(what, record("F", payload), *map(str, self.asked("finalize", argument)))
 
+    def customize(self, piece):
+        self.call(f"C of {len(piece)} bytes", record("C", piece), *map(str, self.asked("customize", piece)))
+
+    def finish(self):
+        """The close that has no argument."""
+        self.call("E", record("E"), *map(str, self.asked("finish")))
+
     def squeeze(self, size):
         lines = [bytes_line(*answer, size) for answer in self.asked("squeeze", size)]
         self.call(f"R of {size} bytes", record("R", n=size), *lines)
 
     def one_go(self, function, message, domain, size):
-        answer = transcript.one_go(RATES[function], message, domain, size)
+        answer = one_go.turboshake(RATES[function], message, domain, size)
         what = f"T {function} {domain:02x} of {len(message)} bytes, {size} asked"
         self.call(what, one_go_record(function, domain, size, message), bytes_line(*answer, size))
 
     def kt_one_go(self, function, message, custom, size):
-        answer = transcript.kt_one_go(RATES[function], message, custom, size)
+        answer = one_go.kt(RATES[function], message, custom, size)
         what = f"K {function} of {len(message)} bytes with C of {len(custom)}, {size} asked"
         self.call(what, kt_record(function, custom, size, message), bytes_line(*answer, size))
 
     def hopmac(self, strength, key, message, custom, size):
-        answer = transcript.hopmac_one_go(strength, key, message, custom, size)
+        answer = one_go.hopmac(strength, key, message, custom, size)
         what = f"H {strength} with a key of {len(key)} bytes, M of {len(message)} and C of {len(custom)}, {size} asked"
         self.call(what, hopmac_record(strength, key, custom, size, message), bytes_line(*answer, size))
 
     def verify(self, strength, key, message, custom, tag):
-        status, said = transcript.verify(strength, key, message, custom, tag)
+        status, said = one_go.verify(strength, key, message, custom, tag)
         what = f"V {strength} of a tag of {len(tag)} bytes with a key of {len(key)}, M of {len(message)} and C of {len(custom)}"
         self.call(what, verify_record(strength, tag, key, custom, message), f"{status} {'yes' if said else 'no'}")
 
@@ -160,10 +173,10 @@ class Calls:
             self.run.leaf.lanes[field - LEAF_LANES] = value
         elif field >= LANES:
             self.run.node.lanes[field - LANES] = value
-        elif field >= POSITION:
-            self.run.sponges()[field - POSITION].position = value
+        elif field in NAMES:
+            setattr(self.run, NAMES[field], value)
         else:
-            setattr(self.run, ("phase", "absorbed", "squeezed")[field], value)
+            self.run.sponges()[field - POSITION].position = value
         self.add(f"S {field} {value:x}", set_record(field, value), "set")
 
     def dump(self):
@@ -172,7 +185,7 @@ class Calls:
         wanted = dump_line(self.run)
         said = []
         if self.book:  # the phase and the totals are the book's; the position and the lanes only the run has
-            totals = f"{self.book.phase:02x} {len(self.book.fed):016x} {self.book.read:016x} "
+            totals = numbers_line(self.book.phase, *self.book.totals())
             said = [totals + wanted[len(totals) :]]
         self.add("D", record("D"), *said, wanted)
 
@@ -180,7 +193,7 @@ class Calls:
         """A fresh run, every field of which is written as the run in hand has it, is that run: its book goes on."""
         book, run = self.book, self.run
         self.fresh(self.function)
-        fields = list(enumerate((run.phase, run.absorbed, run.squeezed)))
+        fields = [(field, getattr(run, name)) for field, name in NAMES.items() if hasattr(run, name)]
         for sponge, position, lanes in zip(run.sponges(), (POSITION, LEAF_POSITION), (LANES, LEAF_LANES)):
             fields += [(position, sponge.position), *((lanes + i, v) for i, v in enumerate(sponge.lanes))]
         for field, value in order(fields):

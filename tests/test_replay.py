@@ -11,6 +11,7 @@ from transcript import ABSORBING, FINALIZED, TURBOSHAKE, Limits, position_after
 
 CALLS = 30_000  # A, F, R and T together
 LIMIT = Limits.ABSORB_LIMIT
+SQUEEZE_LIMIT = Limits.SQUEEZE_LIMIT
 BIG = (1 << 64) - 1
 BAD_DOMAINS = (0x00, 0x80, 0x81, 0x9F, 0xFF)
 
@@ -101,18 +102,18 @@ def small_list(source, calls):
     calls.dump()
 
 
-def total(source, rate):
+def total(source, rate, limit):
     """A number of bytes absorbed or squeezed, seldom one past the limit."""
     near = source.choice((0, 1, source.randrange(700)))
-    return source.choice((0, near, rate, LIMIT, LIMIT - near, LIMIT - rate, rate * source.randrange(1, 5), LIMIT + 1 + near, BIG - near))
+    return source.choice((0, near, rate, limit, limit - near, limit - rate, rate * source.randrange(1, 5), limit + 1 + near, BIG - near))
 
 
 def overwrite(source, calls):
     """Writes the fields, often so that answer 5 lets them pass, and some lanes."""
     rate = calls.rate
     calls.set(PHASE, source.choice((0, 0, 0, 0, 1, 1, 1, 1, 2, source.randrange(256))))
-    calls.set(ABSORBED, total(source, rate))
-    squeezed = 0 if calls.run.phase == ABSORBING and source.randrange(8) else total(source, rate)
+    calls.set(ABSORBED, total(source, rate, LIMIT))
+    squeezed = 0 if calls.run.phase == ABSORBING and source.randrange(8) else total(source, rate, SQUEEZE_LIMIT)
     calls.set(SQUEEZED, squeezed)
     right = position_after(rate, calls.run.absorbed if calls.run.phase == ABSORBING else squeezed)
     wrong = (right + 1, abs(right - 1), 0, rate, rate + 1, 200, BIG, source.getrandbits(64))
@@ -124,7 +125,7 @@ def overwrite(source, calls):
 def overwritten_call(source, calls):
     """A call on such a run: one that just reaches the limit, one that passes it, or any other."""
     run = calls.run
-    left = LIMIT - (run.absorbed if run.phase == ABSORBING else run.squeezed)
+    left = LIMIT - run.absorbed if run.phase == ABSORBING else SQUEEZE_LIMIT - run.squeezed
     size = length(source, calls.rate, run.node.position)
     if 0 <= left < 1000 and source.randrange(2):
         size = left + source.choice((0, 0, 1, 1, 2, 600))
@@ -193,10 +194,11 @@ class Lists(Held):
                 calls.finalize(0x80)
                 calls.finalize(0x1F)
                 calls.absorb(b"a")
-                calls.set(SQUEEZED, LIMIT - left)
-                calls.set(POSITION, position_after(rate, LIMIT - left))
+                calls.set(SQUEEZED, SQUEEZE_LIMIT - left)
+                calls.set(POSITION, position_after(rate, SQUEEZE_LIMIT - left))
                 for size in (left + 1, left, 1, 0, 5000):
                     calls.squeeze(size)
+        self.assertEqual((calls.answers["A", 2], calls.answers["R", 6]), (2 * 6 * 3, 2 * 6 * 3), "the test itself is wrong")
         self.hold(calls)
 
     def refused_by_5(self, calls, phase, absorbed, squeezed, position):
@@ -212,22 +214,23 @@ class Lists(Held):
         self.assertEqual(calls.answers[("A", 5)], before + 3, "the test itself is wrong")
 
     def test_not_reached(self):
-        """Phases that are none, totals past the limit, positions that are not the totals', a squeeze before the finalize."""
+        """Phases that are none (2 is KT's alone), totals past the limits, positions that are not the totals', a squeeze before the finalize."""
         calls = Calls()
         for function, rate in TURBOSHAKE.items():
             calls.fresh(function)
             for phase in range(2, 256):
                 self.refused_by_5(calls, phase, 0, 0, 0)
             for over in (LIMIT + 1, LIMIT + 1 + rate, 1 << 63, BIG):
-                right = position_after(rate, over)
-                self.refused_by_5(calls, ABSORBING, over, 0, right)
-                self.refused_by_5(calls, FINALIZED, 0, over, right)
+                self.refused_by_5(calls, ABSORBING, over, 0, position_after(rate, over))
                 self.refused_by_5(calls, FINALIZED, over, 0, 0)
-            for size, right in ((0, 0), (1, 1), (rate - 1, rate - 1), (rate, rate), (rate + 1, 1), (LIMIT, (LIMIT - 1) % rate + 1)):
+            for over in (SQUEEZE_LIMIT + 1, SQUEEZE_LIMIT + 1 + rate, LIMIT, 1 << 63, BIG):
+                self.refused_by_5(calls, FINALIZED, 0, over, position_after(rate, over))
+            for size in (0, 1, rate - 1, rate, rate + 1, SQUEEZE_LIMIT, LIMIT):
+                right = position_after(rate, size)
                 for position in {0, 1, 2, rate - 1, rate, rate + 1, 199, 200, 1 << 32, (1 << 32) + right, BIG} - {right}:
                     self.refused_by_5(calls, ABSORBING, size, 0, position)
                     self.refused_by_5(calls, FINALIZED, 7, size, position)
-            for squeezed in (1, 7, rate, LIMIT):
+            for squeezed in (1, 7, rate, SQUEEZE_LIMIT):
                 self.refused_by_5(calls, ABSORBING, squeezed, squeezed, position_after(rate, squeezed))
         self.hold(calls)
 

@@ -6,8 +6,9 @@ import random
 import unittest
 from collections import Counter
 
+from one_go import HOPMAC, LONGEST_TAG
 from replay import MOST, SEED, Calls, Held
-from transcript import CHAINING, HOPMAC, KT, LONGEST_TAG
+from transcript import CHAINING, KT
 
 CASES = 800  # of each op in the random list
 # A key, a message or a C is the beginning of one of these: the states after its blocks are then worked out once, and kept.
@@ -16,7 +17,8 @@ STRENGTHS = dict(zip(HOPMAC, KT.values()))  # the rate of each
 BLOCKS = (*range(135, 138), *range(167, 170))
 CHUNKS = (*range(8191, 8194), *range(16_383, 16_386))
 SIZES = (0, 1, 32, *BLOCKS, *CHUNKS, 20_000)
-CUSTOM_SIZES = (0, 1, 255, 256, *BLOCKS, *range(8191, 8194), 20_000, 65_535)
+CUSTOM_SIZES = (0, 1, 255, 256, *BLOCKS, *range(8191, 8194), 20_000)
+LONG_CUSTOM_SIZES = (65_535, 65_536, 68_921)
 OUTPUTS = (1, 32, 64, *BLOCKS, 335, 336, 337, 1000)
 BAD_TAGS = (0, 65, 66, 200)  # lengths that answer 7
 
@@ -49,15 +51,15 @@ def message_of(source):
 
 
 def custom_of(source, message_size):
-    """Short ones, of a length of the list, with which the inner S ends around a block or a chunk, or one that is refused."""
-    kind = source.randrange(20)
-    if kind < 8:
+    """Short ones, of a length of the list, with which the inner S ends around a block or a chunk; seldom a long one."""
+    kind = source.randrange(100)
+    if kind < 45:
         return CUSTOM[: source.choice((0, 0, 1, source.randrange(300)))]
-    if kind < 12:
-        return CUSTOM[: source.choice(CUSTOM_SIZES[:-1])]
-    if kind < 17:
+    if kind < 70:
+        return CUSTOM[: source.choice(CUSTOM_SIZES)]
+    if kind < 99:
         return CUSTOM[: source.choice(ends(message_size + source.choice((1, 2, 3)), (168, 136, 8192)))]
-    return CUSTOM[: 65_535 if kind == 17 and source.randrange(4) == 0 else 65_536]
+    return CUSTOM[: source.choice(LONG_CUSTOM_SIZES)]
 
 
 def presented(source, right):
@@ -85,14 +87,13 @@ class HopMac(Held):
             key, message = key_of(source, strength), message_of(source)
             custom = custom_of(source, len(message))
             calls.hopmac(strength, key, message, custom, 0 if source.randrange(8) == 0 else source.choice(OUTPUTS))
-            right = HOPMAC[strength](key, message, custom, LONGEST_TAG) if len(custom) < 65_536 else bytes(LONGEST_TAG)
-            tag, at = presented(source, right)
+            tag, at = presented(source, HOPMAC[strength](key, message, custom, LONGEST_TAG))
             calls.verify(strength, key, message, custom, tag)
-            if at is not None and len(custom) < 65_536:
+            if at is not None:
                 wrong.add(at)
         self.assertEqual({at // 8 for at in wrong}, set(range(LONGEST_TAG)))
         self.assertEqual({at % 8 for at in wrong}, set(range(8)))
-        for op, status in (("H", 0), ("H", 4), ("H", 7), ("V", 0), ("V", 4), ("V", 7)):
+        for op, status in (("H", 0), ("H", 7), ("V", 0), ("V", 7)):
             self.assertGreater(calls.answers[op, status], 30, (op, status))
         said = Counter(self.lines(calls, "V"))
         self.assertGreater(min(said["0 yes"], said["0 no"]), 150)
@@ -107,11 +108,11 @@ class HopMac(Held):
                 calls.hopmac(strength, KEY[:size], MESSAGE[:5], b"", 40)
             for size in (*SIZES, *ends(1, (rate, 8192, 16_384))):
                 calls.hopmac(strength, KEY[:16], MESSAGE[:size], b"", 40)
-            for size in (*CUSTOM_SIZES, *ends(100 + 2, (rate,)), *ends(100 + 3, (8192, 16_384)), 65_536):
+            for size in (*CUSTOM_SIZES, *LONG_CUSTOM_SIZES, *ends(100 + 2, (rate,)), *ends(100 + 3, (8192, 16_384))):
                 calls.hopmac(strength, KEY[:16], MESSAGE[:100], CUSTOM[:size], 40)
             for size in (0, *OUTPUTS, 10_000):
                 calls.hopmac(strength, KEY[:16], MESSAGE[:100], CUSTOM[:7], size)
-        self.assertEqual((calls.answers["H", 4], calls.answers["H", 7]), (2, 2), "the test itself is wrong")
+        self.assertEqual(calls.answers["H", 7], 2, "the test itself is wrong")
         self.hold(calls)
 
     def test_every_bit_of_a_tag(self):
@@ -142,17 +143,18 @@ class HopMac(Held):
         self.hold(calls)
 
     def test_lengths_of_a_tag(self):
-        """No byte, or more than 64, answers 7 and no, though all of them are HopMAC's; with a C that is too long 4 wins."""
+        """No byte, or more than 64, answers 7 and no, though all of them are HopMAC's; with a C of 65,536 bytes, which is taken, too."""
         calls = Calls()
         for strength in STRENGTHS:
             call = strength, KEY[:32], MESSAGE[:300]
-            for custom, sizes in ((CUSTOM[:9], (67, 128, 255, 256, 257, 320, 65_536, 65_600)), (CUSTOM[:65_536], (1, 32, 64, 65_600))):
+            for custom, sizes in ((CUSTOM[:9], (67, 128, 255, 256, 257, 320, 65_536, 65_600)), (CUSTOM[:65_536], (65_600,))):
                 right = HOPMAC[strength](*call[1:], custom, 65_600)
                 for size in (*BAD_TAGS, *sizes):
                     calls.verify(*call, custom, right[:size])
+            calls.verify(*call, CUSTOM[:65_536], right[:64])
             calls.hopmac(*call, CUSTOM[:65_536], 0)
-        self.assertEqual(self.lines(calls, "V"), 2 * (12 * ["7 no"] + 8 * ["4 no"]), "the test itself is wrong")
-        self.assertEqual(self.lines(calls, "H"), 2 * ["4 "], "the test itself is wrong")
+        self.assertEqual(self.lines(calls, "V"), 2 * (17 * ["7 no"] + ["0 yes"]), "the test itself is wrong")
+        self.assertEqual(self.lines(calls, "H"), 2 * ["7 "], "the test itself is wrong")
         self.hold(calls)
 
     def test_each_part_counts(self):
@@ -171,18 +173,25 @@ class HopMac(Held):
         self.hold(calls)
 
     def test_no_trace(self):
-        """The run in hand goes on as if neither call had been."""
+        """The run in hand goes on as if neither call had been, done or refused."""
         calls = Calls()
         for function in (0, 2, 3, 4):
             calls.fresh(function)
             calls.absorb(MESSAGE[:9000])
-            for custom in (CUSTOM[:9], CUSTOM[:65_536]):
-                calls.hopmac(function % 2, KEY[:32], MESSAGE[:300], custom, 64)
+            for size in (64, 0):
+                calls.hopmac(function % 2, KEY[:32], MESSAGE[:300], CUSTOM[:9], size)
                 calls.dump()
-                calls.verify(function % 2, KEY[:32], MESSAGE[:300], custom, bytes(64))
+                calls.verify(function % 2, KEY[:32], MESSAGE[:300], CUSTOM[:9], bytes(size))
                 calls.dump()
             calls.absorb(MESSAGE[9000:9100])
-            calls.finalize(0x1F if function == 0 else b"abc")
+            if function == 0:
+                calls.finalize(0x1F)
+            else:
+                calls.customize(b"ab")
+                calls.hopmac(1, KEY[:32], MESSAGE[:300], b"", 64)
+                calls.dump()
+                calls.customize(b"c")
+                calls.finish()
             calls.hopmac(1, KEY[:32], MESSAGE[:300], b"", 64)
             calls.squeeze(64)
             calls.dump()
@@ -196,8 +205,8 @@ class HopMac(Held):
         calls.hopmac(1, b"", MESSAGE[:most], b"", 32)
         calls.hopmac(0, b"", b"", CUSTOM[:most], 32)
         calls.hopmac(1, b"", b"", b"", MOST)
-        part = most - 65_535 - 64
-        calls.verify(0, KEY[: part // 2], MESSAGE[: part - part // 2], CUSTOM[:65_535], bytes(64))
+        part = most - 65_536 - 64
+        calls.verify(0, KEY[: part // 2], MESSAGE[: part - part // 2], CUSTOM[:65_536], bytes(64))
         calls.verify(1, b"", b"", b"", bytes(most))
         self.hold(calls)
 

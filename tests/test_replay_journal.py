@@ -5,9 +5,10 @@ Needs target/bin/replay, which `rt check` and `rt ci` leave.
 import unittest
 
 import reference
-from kt_lists import BIG, CHUNK, CUSTOM, LIMIT, STREAMS, KtLists, fit
-from replay import ABSORBED, LANES, LEAF_LANES, LEAF_POSITION, MOST, PHASE, POSITION, SQUEEZED, Calls, Held
-from transcript import ABSORBING, DAY, FINALIZED, HOPMAC, KT, Limits
+from kt_lists import BIG, CHUNK, CUSTOM, CUSTOM_LIMIT, LIMIT, SQUEEZE_LIMIT, STREAMS, KtLists, event_of, fit
+from one_go import HOPMAC
+from replay import ABSORBED, CUSTOMIZED, LANES, LEAF_LANES, LEAF_POSITION, MOST, PHASE, POSITION, SQUEEZED, Calls, Held
+from transcript import ABSORBING, CUSTOMIZING, DAY, FINALIZED, KT, Limits
 
 CALLS = 10_000  # of all ops together
 EVENT = Limits.EVENT_LIMIT
@@ -17,11 +18,6 @@ LONG = 2 * STREAMS[0]
 STATION = b"Hanbeorit station 3"
 # What an event of so many bytes has after it, by hand.
 LENGTHS = {0: b"\0", 1: b"\1\1", 255: b"\xff\1", 256: b"\1\0\2", EVENT: b"\xff\xff\2"}
-
-
-def event_of(size):
-    """The length of the longest event that adds at most so many bytes to a day; 0 where not even an empty one does."""
-    return max([0, *(n for n in range(size - 3, size) if n + len(reference.length_encode(n)) <= size)])
 
 
 class DayLists(KtLists):
@@ -52,6 +48,9 @@ class DayLists(KtLists):
     def absorbing(self, stream):
         self.too_long(25) or super().absorbing(stream)
 
+    def customizing(self, stream):
+        self.too_long(25) or super().customizing(stream)
+
     def squeezing(self, stream):
         self.too_long(25) or super().squeezing(stream)
 
@@ -78,7 +77,7 @@ class Days(Held):
     def test_random_lists(self):
         """Calls from a fixed seed, each number that a call here can answer among them."""
         calls = DayLists().made(CALLS)
-        possible = {"A": (0, 2, 3, 5, 8), "F": (0, 3, 4, 5), "R": (0, 3, 5, 6)}
+        possible = {"A": (0, 2, 3, 5, 8), "F": (0, 3, 5), "C": (0, 3, 4, 5), "E": (0, 3, 5), "R": (0, 3, 5, 6)}
         for op, statuses in possible.items():
             for status in statuses:
                 self.assertGreater(calls.answers[op, status], 20, (op, status))
@@ -103,23 +102,34 @@ class Days(Held):
         self.hold(calls)
 
     def test_names(self):
-        """The name is asked for its length, 4, after the phase, and a refused one leaves the day open.
+        """The name given whole and in pieces: both days have one digest, that of the day's message with the name as C.
 
         The four events have 63 bytes with their lengths, so a name of CHUNK - 66 bytes fills the first chunk.
         """
         calls = Calls()
-        for size in (0, 1, 19, 255, 256, CHUNK - 66, CHUNK - 65, 65_534, 65_535):
-            calls.fresh(JOURNAL)
-            for event in (STREAMS[0][:40], b"", STREAMS[0][40:57]):
-                calls.absorb(event)
-            calls.finalize(CUSTOM)
-            calls.finalize(bytes(MOST))
-            calls.absorb(b"")
-            self.assertEqual(calls.run.absorbed, 63, "the test itself is wrong")
-            calls.finalize(CUSTOM[:size])
-            calls.finalize(CUSTOM)
-            calls.squeeze(40)
-        self.assertEqual((calls.answers["F", 0], calls.answers["F", 3], calls.answers["F", 4]), (9, 9, 18), "the test itself is wrong")
+        events = STREAMS[0][:40], b"", STREAMS[0][40:57], b""
+        for size in (0, 1, 19, 255, 256, CHUNK - 66, CHUNK - 65, 65_535, 65_536, MOST):
+            name = CUSTOM[:size]
+            lines = {f"0 {reference.kt128(reference.day_message(events), name, 40).hex()}"}
+            for whole in (True, False):
+                calls.fresh(JOURNAL)
+                for event in events:
+                    calls.absorb(event)
+                self.assertEqual(calls.run.absorbed, 63, "the test itself is wrong")
+                if whole:
+                    calls.finalize(name)
+                else:
+                    for piece in (name[: size // 2], b"", name[size // 2 :]):
+                        calls.customize(piece)
+                    self.answered(calls, 3, 0, 1, EVENT + 1)
+                    calls.finish()
+                calls.finalize(name)
+                calls.finish()
+                calls.squeeze(40)
+                lines.add(calls.expected[-1][2])
+            self.assertEqual(len(lines), 1, "the test itself is wrong")
+        self.assertEqual((calls.answers["F", 0], calls.answers["F", 3]), (10, 20), "the test itself is wrong")
+        self.assertEqual((calls.answers["E", 0], calls.answers["E", 3]), (10, 20), "the test itself is wrong")
         self.hold(calls)
 
     def answered(self, calls, status, *sizes):
@@ -158,7 +168,7 @@ class Days(Held):
         self.hold(calls)
 
     def test_3_and_5_win_over_8(self):
-        """A day that is closed answers 3, one that no calls reach 5, however long the event is."""
+        """A day that is closed, or whose name has begun, answers 3, one that no calls reach 5, however long the event is."""
         calls = Calls()
         calls.fresh(JOURNAL)
         calls.absorb(STREAMS[0][: CHUNK + 5])
@@ -166,15 +176,21 @@ class Days(Held):
         self.answered(calls, 3, 0, 1, EVENT, *REFUSED, MOST)
         calls.squeeze(40)
         self.answered(calls, 3, 0, EVENT, *REFUSED)
-        for field, wrong in ((PHASE, 2), (ABSORBED, LIMIT + 1), (SQUEEZED, LIMIT + 1), (POSITION, 169), (POSITION + 1, 1)):
-            for phase in (0, FINALIZED):
+        for name in (b"", b"station"):
+            calls.fresh(JOURNAL)
+            calls.absorb(STREAMS[0][: CHUNK + 5])
+            calls.customize(name)
+            self.answered(calls, 3, 0, 1, EVENT, *REFUSED, MOST)
+        totals = (ABSORBED, LIMIT + 1), (SQUEEZED, SQUEEZE_LIMIT + 1), (CUSTOMIZED, CUSTOM_LIMIT + 1)
+        for field, wrong in ((PHASE, 3), *totals, (POSITION, 169), (LEAF_POSITION, 1)):
+            for phase in (ABSORBING, FINALIZED, CUSTOMIZING):
                 calls.fresh(JOURNAL)
                 calls.set(PHASE, phase)
                 calls.set(field, wrong)
                 self.answered(calls, 5, 0, 1, EVENT, *REFUSED)
-        for totals in ((LIMIT + 1, 0), (BIG, 0), (0, 1)):
+        for totals in ((LIMIT + 1, 0, 0), (BIG, 0, 0), (0, 1, 0), (0, 0, 1), (7, 0, CUSTOM_LIMIT)):
             calls.fresh(JOURNAL)
-            for field, value in zip((ABSORBED, SQUEEZED), totals):
+            for field, value in zip((ABSORBED, SQUEEZED, CUSTOMIZED), totals):
                 calls.set(field, value)
             fit(calls)
             self.answered(calls, 5, 0, 1, EVENT, *REFUSED)
@@ -186,11 +202,11 @@ class Days(Held):
         self.with_left(calls, JOURNAL, 0)
         self.answered(calls, 8, *REFUSED, MOST)
         self.answered(calls, 2, 0, 1, EVENT)
-        for phase, status in ((FINALIZED, 3), (2, 5)):
+        for phase, status in ((FINALIZED, 3), (CUSTOMIZING, 3), (3, 5)):
             calls.set(PHASE, phase)
             fit(calls)
             self.answered(calls, status, 0, 1, EVENT, *REFUSED, MOST)
-        for phase in (ABSORBING, FINALIZED):
+        for phase in (ABSORBING, FINALIZED, CUSTOMIZING):
             calls.set(PHASE, phase)
             for field, wrong in ((POSITION, 169), (LEAF_POSITION, 3)):
                 fit(calls)

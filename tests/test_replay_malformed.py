@@ -4,7 +4,7 @@ Needs target/bin/replay, which `rt check` and `rt ci` leave.
 """
 import unittest
 
-from replay import LANES, LEAF_LANES, LEAF_POSITION, MOST, PHASE, POSITION
+from replay import CUSTOMIZED, LANES, LEAF_LANES, LEAF_POSITION, MOST, PHASE, POSITION
 from replay import hopmac_record, kt_record, one_go_record, play, record, set_record, verify_record
 
 BIG = (1 << 64) - 1
@@ -32,6 +32,7 @@ class Malformed(unittest.TestCase):
         whole = [record("N", b"\1"), record("A", b"ab"), record("F", b"\x1f"), record("R", n=3), set_record(PHASE, 0), record("D")]
         whole += [one_go_record(0, 0x1F, 2, b"xyz"), kt_record(2, b"abc", 2, b"xyz"), record("A", bytes(MOST))]
         whole += [hopmac_record(0, b"key", b"abc", 2, b"xyz"), verify_record(1, b"tag", b"key", b"abc", b"xyz")]
+        whole += [record("C", b"ab"), record("E")]
         for function in (0, 2, 4):
             for data in whole:
                 for size in {*range(1, min(len(data), 20)), len(data) - 1}:
@@ -39,14 +40,14 @@ class Malformed(unittest.TestCase):
                         self.refused([(record("N", bytes([function])), "fresh")], data[:size])
 
     def test_unknown_op(self):
-        for op in "\x00\n \xff09anftkhvZ":
+        for op in "\x00\n \xff09anftkhvceZ":
             for n in (0, 1):
                 with self.subTest(op=op, n=n):
                     self.refused_in_a_list(record(op, bytes(n)))
 
     def test_too_long(self):
         for n in FAR:
-            for op, function in (*((op, 0) for op in "NAFSDTKHV"), ("A", 2), ("F", 2), ("F", 3), ("A", 4), ("F", 4)):
+            for op, function in (*((op, 0) for op in "NAFSDTKHV"), *((op, function) for op in "AFCE" for function in (2, 3, 4))):
                 with self.subTest(op=op, n=n, function=function):
                     self.refused_in_a_list(record(op, bytes(MOST + 1), n=n), function)
             for function in (0, 2, 4):
@@ -61,6 +62,22 @@ class Malformed(unittest.TestCase):
         for size in FAR:
             self.refused_in_a_list(one_go_record(0, 0x1F, size, b"abc"))
             self.refused_in_a_list(one_go_record(0, 0x80, size, b"abc"))
+
+    def test_new_close_with_bytes(self):
+        """The close of the customization phase takes none, in any phase."""
+        for function in (2, 3, 4):
+            run = [(record("N", bytes([function])), "fresh")]
+            for before in (run, [*run, (record("C", b"ab"), "0")], [*run, (record("F", b"ab"), "0")]):
+                for size in (1, 2, 9, MOST):
+                    self.refused(before, record("E", bytes(size)) + record("E") + record("N", b"\1"))
+
+    def test_customization_phase_of_turboshake(self):
+        """It has none: neither a customization piece nor the new close is a call of its runs, whatever their phase."""
+        for function in (0, 1):
+            run = [(record("N", bytes([function])), "fresh"), (record("A", b"abc"), "0")]
+            for before in (run, [*run, (record("F", b"\x1f"), "0")], [*run, (set_record(PHASE, 2), "set")]):
+                for data in (record("C"), record("C", b"\x1f"), record("C", b"abc"), record("E"), record("E", b"\x1f")):
+                    self.refused(before, data + record("N", b"\2"))
 
     def test_inner_lengths_of_kt(self):
         """Too short for its numbers, an output longer than the buffer, a customization string longer than what follows it."""
@@ -122,7 +139,8 @@ class Malformed(unittest.TestCase):
     def test_no_run(self):
         answered = [(one_go_record(0, 0x1F, 0, b""), "7 "), (kt_record(3, b"", 0, b""), "7 ")]
         answered += [(hopmac_record(0, b"", b"", 0, b""), "7 "), (verify_record(1, b"", b"", b"", b""), "7 no")]
-        for data in (record("A", b"ab"), record("A"), record("F", b"\x1f"), record("R", n=3), set_record(PHASE, 0), record("D")):
+        calls = record("A", b"ab"), record("A"), record("F", b"\x1f"), record("C", b"ab"), record("C"), record("E"), record("R", n=3)
+        for data in (*calls, set_record(PHASE, 0), record("D")):
             with self.subTest(op=data[:1]):
                 self.refused([], data + record("N", b"\0"))
                 self.refused(answered, data + record("N", b"\0"))
@@ -137,8 +155,8 @@ class Malformed(unittest.TestCase):
                 self.refused_in_a_list(set_record(field, 0))
 
     def test_fields_of_kt(self):
-        """5 to 63, 89 to 95 and from 121 on are none of a KT run, nor of a day."""
-        for field in (*range(LEAF_POSITION + 1, LANES), *range(LANES + 25, LEAF_LANES), *range(LEAF_LANES + 25, 256)):
+        """6 to 63, 89 to 95 and from 121 on are none of a KT run, nor of a day."""
+        for field in (*range(CUSTOMIZED + 1, LANES), *range(LANES + 25, LEAF_LANES), *range(LEAF_LANES + 25, 256)):
             with self.subTest(field=field):
                 self.refused_in_a_list(set_record(field, 0), 2 + field % 2)
                 self.refused_in_a_list(set_record(field, 0), 4)
@@ -146,9 +164,10 @@ class Malformed(unittest.TestCase):
     def test_fields_after_another_function(self):
         """The fields are those of the run in hand, whatever the one before had."""
         for function in (b"\2", b"\4"):
-            leaf = [(record("N", function), "fresh"), (set_record(LEAF_POSITION, 7), "set"), (set_record(LEAF_LANES + 24, 7), "set")]
-            for field in (LEAF_POSITION, LEAF_LANES, LEAF_LANES + 24):
-                self.refused(leaf + [(record("N", b"\0"), "fresh")], set_record(field, 7) + record("N", b"\2"))
+            tree = [(record("N", function), "fresh"), (set_record(LEAF_POSITION, 7), "set"), (set_record(LEAF_LANES + 24, 7), "set")]
+            tree += [(set_record(CUSTOMIZED, 7), "set"), (set_record(CUSTOMIZED, BIG), "set")]
+            for field in (LEAF_POSITION, CUSTOMIZED, LEAF_LANES, LEAF_LANES + 24):
+                self.refused(tree + [(record("N", b"\0"), "fresh")], set_record(field, 7) + record("N", b"\2"))
 
 
 if __name__ == "__main__":
