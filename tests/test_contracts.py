@@ -14,10 +14,8 @@ PUBLIC = re.compile(
 
 
 def public_files(crate):
-    """lib.rt, and the files of the modules that it declares public."""
-    src = crate / "src"
-    text = (src / "lib.rt").read_text()
-    return [src / "lib.rt", *(src / f"{name}.rt" for name in re.findall(r"^pub mod (\w+);$", text, re.MULTILINE))]
+    """Every file: the methods of a public type may stand in a module that is not public. What a crate keeps to itself is `pub(crate)`."""
+    return sorted((crate / "src").glob("*.rt"))
 
 
 def public_functions():
