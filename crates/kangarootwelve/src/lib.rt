@@ -1,8 +1,9 @@
 // KT128 and KT256: draft-irtf-cfrg-kangarootwelve-16, section 3, in one go and in pieces. HopMAC128 and HopMAC256, section 4, in one go,
 // and their tag check.
 //
-// A type for each strength, whose calls stand in `strength128` and `strength256`; what they share stands in `calls`, `tree`, `one_go`, `encode` and `hopmac`,
+// A type for each strength, whose calls stand in `strength128` and `strength256`; what they share stands in `by_value`, `calls`, `tree`, `one_go`, `encode` and `hopmac`,
 // over the rate, the length of a chaining value and that of an inner digest.
+mod by_value;
 mod calls;
 mod encode;
 mod hopmac;
@@ -52,6 +53,12 @@ struct Progress {
 // What a call leaves of a run beside its lanes, and its status.
 struct Moved {
     at: Progress,
+    status: u8,
+}
+
+// What a call answers, whatever the strength.
+struct Answered {
+    run: Run,
     status: u8,
 }
 

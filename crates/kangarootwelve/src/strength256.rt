@@ -1,13 +1,26 @@
-// The calls of KT256: the text of `calls` and `one_go` at its rate and chaining length.
+// The calls of KT256: the text of `by_value`, `calls` and `one_go` at its rate and chaining length.
 ghost use mathlib.Core.Path.{_≡_};
 ghost use lib.ListN.{length};
 ghost use Rattle.sponge.specs.Transcript.{Call};
 ghost use Rattle.kangarootwelve.specs.Model.{freshOf, answer256, outputOf, hashStatus, hashOutput};
 use crate::Answer256;
+use crate::Answered;
 use crate::Kt256;
+use crate::by_value;
 use crate::calls;
 use crate::one_go;
 use turboshake::TurboShake256;
+
+fn answer_of(answer: Answered) -> Answer256
+    ensures { λ r. ⌜ r ≡ record { hasher = record { run = answer .run }; status = answer .status } ⌝ }
+{
+    let run = answer.run;
+    let hasher = Kt256 { run };
+    Answer256 {
+        hasher,
+        status: answer.status,
+    }
+}
 
 impl Kt256 {
     pub const RATE: usize = TurboShake256::RATE;
@@ -53,23 +66,7 @@ impl Kt256 {
         ensures { λ r. ⌜ r ≡ answer256 self (Call.customize (now (piece .entry))) ⌝ }
     {
         let given = self.run;
-        let at = calls::progress(given);
-        let mut node = given.node;
-        let mut leaf = given.leaf;
-        let moved = calls::customize(
-            Self::RATE,
-            Self::CHAINING,
-            &mut node.lanes,
-            &mut leaf.lanes,
-            at,
-            piece,
-        );
-        let run = calls::run_with(node, leaf, moved.at);
-        let hasher = Kt256 { run };
-        Answer256 {
-            hasher,
-            status: moved.status,
-        }
+        answer_of(by_value::customize(Self::RATE, Self::CHAINING, given, piece))
     }
 
     // Closes the run with the whole customization string.
@@ -77,23 +74,7 @@ impl Kt256 {
         ensures { λ r. ⌜ r ≡ answer256 self (Call.finalize (now (customization .entry))) ⌝ }
     {
         let given = self.run;
-        let at = calls::progress(given);
-        let mut node = given.node;
-        let mut leaf = given.leaf;
-        let moved = calls::finalize(
-            Self::RATE,
-            Self::CHAINING,
-            &mut node.lanes,
-            &mut leaf.lanes,
-            at,
-            customization,
-        );
-        let run = calls::run_with(node, leaf, moved.at);
-        let hasher = Kt256 { run };
-        Answer256 {
-            hasher,
-            status: moved.status,
-        }
+        answer_of(by_value::finalize(Self::RATE, Self::CHAINING, given, customization))
     }
 
     // Closes the run with the customization string that was absorbed in pieces.
@@ -101,22 +82,7 @@ impl Kt256 {
         ensures { λ r. ⌜ r ≡ answer256 self Call.finish ⌝ }
     {
         let given = self.run;
-        let at = calls::progress(given);
-        let mut node = given.node;
-        let mut leaf = given.leaf;
-        let moved = calls::finish(
-            Self::RATE,
-            Self::CHAINING,
-            &mut node.lanes,
-            &mut leaf.lanes,
-            at,
-        );
-        let run = calls::run_with(node, leaf, moved.at);
-        let hasher = Kt256 { run };
-        Answer256 {
-            hasher,
-            status: moved.status,
-        }
+        answer_of(by_value::finish(Self::RATE, Self::CHAINING, given))
     }
 
     // Squeezes as many bytes of output as `out` holds.
