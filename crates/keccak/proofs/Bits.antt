@@ -37,7 +37,7 @@ module _ (x m n : ℕ) (h : 0 < n) (e : m + n ≡ 64) (hx : x < 2 ^ 64) where
       ap (λ (k : ℕ). (x * 2 ^ n) % 2 ^ k) (sym e) ∙ mod-pow-add (x * 2 ^ n) m n
       ∙ ap₂ (λ (u v : ℕ). (u % 2 ^ m) * 2 ^ n + v) (shl-shr x n) (mul-mod-left x (2 ^ n)) ∙ add-zero ((x % 2 ^ m) * 2 ^ n)
 
-  rotl-sum : rotl x n ≡ (x % 2 ^ m) * 2 ^ n + x / 2 ^ m
+  pub rotl-sum : rotl x n ≡ (x % 2 ^ m) * 2 ^ n + x / 2 ^ m
   rotl-sum =
       let d : 64 - n ≡ m = omega arith in
       rotl-pos x n h ∙ ap₂ bitOr shifted (ap (λ (k : ℕ). x / 2 ^ k) d) ∙ or-shifted (x % 2 ^ m) n (x / 2 ^ m) (shr-lt n m within)
@@ -89,7 +89,7 @@ rotl-bit x n z hx hn hz =
 -- ---- inversion
 
 -- the quotient and the remainder by p of all ones less x
-less : (ones p a q r : ℕ) → ones ≡ a * p + (p - 1) → q ≤ a → r < p → ones - (q * p + r) ≡ (a - q) * p + (p - 1 - r)
+pub less : (ones p a q r : ℕ) → ones ≡ a * p + (p - 1) → q ≤ a → r < p → ones - (q * p + r) ≡ (a - q) * p + (p - 1 - r)
 less ones p a q r e hq hr =
     let d : ℕ = a - q in
     let ea : a ≡ d + q = omega arith in

@@ -8,3 +8,5 @@ pub mod Rounds
 pub mod States
 pub mod Bytes
 pub mod Bits
+pub mod Complement
+pub mod Planes

@@ -41,28 +41,28 @@ grid-state : (f : ℕ → ℕ → ℕ) → ((x y : ℕ) → f x y < 2 ^ 64) → 
 grid-state f h = record { lanes = grid-length f; words = grid-words f h }
 
 module _ (a : List ℕ) (s : State a) where
-  at : (x y : ℕ) → lane a x y < 2 ^ 64
-  at x y = s .words (x % 5 + 5 * (y % 5))
+  pub lane-lt : (x y : ℕ) → lane a x y < 2 ^ 64
+  lane-lt x y = s .words (x % 5 + 5 * (y % 5))
 
-  parity-lt : (x : ℕ) → parity a x < 2 ^ 64
+  pub parity-lt : (x : ℕ) → parity a x < 2 ^ 64
   unfolding parity
-  parity-lt x = xor-lt 64 _ _ (xor-lt 64 _ _ (xor-lt 64 _ _ (xor-lt 64 _ _ (at x 0) (at x 1)) (at x 2)) (at x 3)) (at x 4)
+  parity-lt x = xor-lt 64 _ _ (xor-lt 64 _ _ (xor-lt 64 _ _ (xor-lt 64 _ _ (lane-lt x 0) (lane-lt x 1)) (lane-lt x 2)) (lane-lt x 3)) (lane-lt x 4)
 
   theta-state : State (theta a)
   unfolding theta
-  theta-state = grid-state _ (λ x y. xor-lt 64 _ _ (at x y) (xor-lt 64 _ _ (parity-lt (x + 4)) (rotl-lt _ 1 (parity-lt (x + 1)))))
+  theta-state = grid-state _ (λ x y. xor-lt 64 _ _ (lane-lt x y) (xor-lt 64 _ _ (parity-lt (x + 4)) (rotl-lt _ 1 (parity-lt (x + 1)))))
 
   rho-state : State (rho a)
   unfolding rho
-  rho-state = grid-state _ (λ x y. rotl-lt _ _ (at x y))
+  rho-state = grid-state _ (λ x y. rotl-lt _ _ (lane-lt x y))
 
   pi-state : State (pi a)
   unfolding pi
-  pi-state = grid-state _ (λ x y. at (x + 3 * y) x)
+  pi-state = grid-state _ (λ x y. lane-lt (x + 3 * y) x)
 
   chi-state : State (chi a)
   unfolding chi
-  chi-state = grid-state _ (λ x y. xor-lt 64 _ _ (at x y) (and-lt 64 _ _ (complement-lt _) (at (x + 2) y)))
+  chi-state = grid-state _ (λ x y. xor-lt 64 _ _ (lane-lt x y) (and-lt 64 _ _ (complement-lt _) (lane-lt (x + 2) y)))
 
   iota-words : (rc : ℕ) → rc < 2 ^ 64 → (k : ℕ) → getD (iota rc a) k 0 < 2 ^ 64
   unfolding iota

@@ -1,8 +1,16 @@
-// One round of the permutation, step by step: FIPS 202, sections 3.2 and 3.3.
+// One round of the permutation: FIPS 202, sections 3.2 and 3.3, with the lanes in locals.
+//
+// One parity, C[1], is held inverted. theta takes it up in D[0] and D[2] alone, so the lanes of columns 0 and 2 reach chi inverted. pi brings
+// each plane one lane of each column, and these two stand two apart: so chi needs two inversions in a plane instead of five.
 ghost use mathlib.Core.Path.{_≡_};
-ghost use Prim.Native.Nat.{_<_};
+ghost use Prim.Native.Nat.{_<_, _+_, _*_};
+ghost use lib.Bits.{bitAnd, bitXor};
+ghost use Rattle.keccak.specs.State.{lane};
 ghost use Rattle.keccak.specs.Round as spec;
 use crate::OFFSETS;
+
+// Five lanes, one of each column of the state before pi: theta's D, or a plane.
+struct Plane(u64, u64, u64, u64, u64);
 
 // x rotated left by n places.
 fn rotate_left(x: u64, n: u64) -> u64
@@ -15,142 +23,113 @@ fn rotate_left(x: u64, n: u64) -> u64
     x << n | x >> (64 - n)
 }
 
-// Each lane takes up the parities of two columns.
-fn theta(a: [u64; 25]) -> [u64; 25]
-    ensures { λ r. ⌜ r ≡ spec.theta a ⌝ }
+// theta's D, made with C[1] inverted.
+fn theta_effect(a: &[u64; 25]) -> Plane
+    ensures { λ r. ⌜ r .0 ≡ bitXor (spec.parity (now (a .entry)) 4) (spec.rotl (spec.complement (spec.parity (now (a .entry)) 1)) 1) ⌝ }
+    ensures { λ r. ⌜ r .1 ≡ bitXor (spec.parity (now (a .entry)) 0) (spec.rotl (spec.parity (now (a .entry)) 2) 1) ⌝ }
+    ensures { λ r. ⌜ r .2 ≡ bitXor (spec.complement (spec.parity (now (a .entry)) 1)) (spec.rotl (spec.parity (now (a .entry)) 3) 1) ⌝ }
+    ensures { λ r. ⌜ r .3 ≡ bitXor (spec.parity (now (a .entry)) 2) (spec.rotl (spec.parity (now (a .entry)) 4) 1) ⌝ }
+    ensures { λ r. ⌜ r .4 ≡ bitXor (spec.parity (now (a .entry)) 3) (spec.rotl (spec.parity (now (a .entry)) 0) 1) ⌝ }
 {
     let c0 = a[0] ^ a[5] ^ a[10] ^ a[15] ^ a[20];
-    let c1 = a[1] ^ a[6] ^ a[11] ^ a[16] ^ a[21];
+    let c1 = !(a[1] ^ a[6] ^ a[11] ^ a[16] ^ a[21]);
     let c2 = a[2] ^ a[7] ^ a[12] ^ a[17] ^ a[22];
     let c3 = a[3] ^ a[8] ^ a[13] ^ a[18] ^ a[23];
     let c4 = a[4] ^ a[9] ^ a[14] ^ a[19] ^ a[24];
-    let d0 = c4 ^ (c1 << 1 | c1 >> 63);
-    let d1 = c0 ^ (c2 << 1 | c2 >> 63);
-    let d2 = c1 ^ (c3 << 1 | c3 >> 63);
-    let d3 = c2 ^ (c4 << 1 | c4 >> 63);
-    let d4 = c3 ^ (c0 << 1 | c0 >> 63);
-    [
-        a[0] ^ d0,
-        a[1] ^ d1,
-        a[2] ^ d2,
-        a[3] ^ d3,
-        a[4] ^ d4,
-        a[5] ^ d0,
-        a[6] ^ d1,
-        a[7] ^ d2,
-        a[8] ^ d3,
-        a[9] ^ d4,
-        a[10] ^ d0,
-        a[11] ^ d1,
-        a[12] ^ d2,
-        a[13] ^ d3,
-        a[14] ^ d4,
-        a[15] ^ d0,
-        a[16] ^ d1,
-        a[17] ^ d2,
-        a[18] ^ d3,
-        a[19] ^ d4,
-        a[20] ^ d0,
-        a[21] ^ d1,
-        a[22] ^ d2,
-        a[23] ^ d3,
-        a[24] ^ d4,
-    ]
+    Plane(
+        c4 ^ (c1 << 1 | c1 >> 63),
+        c0 ^ (c2 << 1 | c2 >> 63),
+        c1 ^ (c3 << 1 | c3 >> 63),
+        c2 ^ (c4 << 1 | c4 >> 63),
+        c3 ^ (c0 << 1 | c0 >> 63),
+    )
 }
 
-// Each lane is rotated by its offset.
-fn rho(a: [u64; 25]) -> [u64; 25]
-    ensures { λ r. ⌜ r ≡ spec.rho a ⌝ }
+// Lane (k, k + 2 y) after theta and rho, where d is D[k]. Inlined, k and y are constants, and so are the index and the offset.
+fn theta_rho(a: &[u64; 25], d: u64, k: usize, y: usize) -> u64
+    requires { ⌜ (k < 5) × (y < 5) ⌝ }
+    ensures { λ r. ⌜ r ≡ spec.rotl (bitXor (lane (now (a .entry)) k (k + 2 * y)) d) (lane spec.offsets k (k + 2 * y)) ⌝ }
 {
     let offsets = OFFSETS;
-    let mut b = [0u64; 25];
-    let mut i: usize = 0;
-    while i < 25 {
-        let v = rotate_left(a[i], offsets[i]);
-        b[i] = v;
-        i += 1;
-    }
-    b
+    let i = k + 5 * ((k + 2 * y) % 5);
+    rotate_left(a[i] ^ d, offsets[i])
 }
 
-// The lanes change positions.
-fn pi(a: [u64; 25]) -> [u64; 25]
-    ensures { λ r. ⌜ r ≡ spec.pi a ⌝ }
+// The lanes that pi brings to plane y: the one of column k stands at (k + 2 y, y).
+fn theta_rho_pi(a: &[u64; 25], d: Plane, y: usize) -> Plane
+    requires { ⌜ y < 5 ⌝ }
+    ensures { λ r. ⌜ r .0 ≡ spec.rotl (bitXor (lane (now (a .entry)) 0 (0 + 2 * y)) (d .0)) (lane spec.offsets 0 (0 + 2 * y)) ⌝ }
+    ensures { λ r. ⌜ r .1 ≡ spec.rotl (bitXor (lane (now (a .entry)) 1 (1 + 2 * y)) (d .1)) (lane spec.offsets 1 (1 + 2 * y)) ⌝ }
+    ensures { λ r. ⌜ r .2 ≡ spec.rotl (bitXor (lane (now (a .entry)) 2 (2 + 2 * y)) (d .2)) (lane spec.offsets 2 (2 + 2 * y)) ⌝ }
+    ensures { λ r. ⌜ r .3 ≡ spec.rotl (bitXor (lane (now (a .entry)) 3 (3 + 2 * y)) (d .3)) (lane spec.offsets 3 (3 + 2 * y)) ⌝ }
+    ensures { λ r. ⌜ r .4 ≡ spec.rotl (bitXor (lane (now (a .entry)) 4 (4 + 2 * y)) (d .4)) (lane spec.offsets 4 (4 + 2 * y)) ⌝ }
 {
-    [
-        a[0],
-        a[6],
-        a[12],
-        a[18],
-        a[24],
-        a[3],
-        a[9],
-        a[10],
-        a[16],
-        a[22],
-        a[1],
-        a[7],
-        a[13],
-        a[19],
-        a[20],
-        a[4],
-        a[5],
-        a[11],
-        a[17],
-        a[23],
-        a[2],
-        a[8],
-        a[14],
-        a[15],
-        a[21],
-    ]
+    Plane(
+        theta_rho(a, d.0, 0, y),
+        theta_rho(a, d.1, 1, y),
+        theta_rho(a, d.2, 2, y),
+        theta_rho(a, d.3, 3, y),
+        theta_rho(a, d.4, 4, y),
+    )
 }
 
-// Each lane is changed by the two after it in its row.
-fn chi(a: [u64; 25]) -> [u64; 25]
-    ensures { λ r. ⌜ r ≡ spec.chi a ⌝ }
+// chi of a plane whose lanes 0 and 2 are given inverted. From the last lane to the first: so the compiler moves fewer of them to and from the stack.
+fn chi(b: Plane) -> Plane
+    ensures { λ r. ⌜ r .0 ≡ bitXor (spec.complement (b .0)) (bitAnd (spec.complement (b .1)) (spec.complement (b .2))) ⌝ }
+    ensures { λ r. ⌜ r .1 ≡ bitXor (b .1) (bitAnd (b .2) (b .3)) ⌝ }
+    ensures { λ r. ⌜ r .2 ≡ bitXor (spec.complement (b .2)) (bitAnd (spec.complement (b .3)) (b .4)) ⌝ }
+    ensures { λ r. ⌜ r .3 ≡ bitXor (b .3) (bitAnd (spec.complement (b .4)) (spec.complement (b .0))) ⌝ }
+    ensures { λ r. ⌜ r .4 ≡ bitXor (b .4) (bitAnd (b .0) (b .1)) ⌝ }
 {
-    [
-        a[0] ^ !a[1] & a[2],
-        a[1] ^ !a[2] & a[3],
-        a[2] ^ !a[3] & a[4],
-        a[3] ^ !a[4] & a[0],
-        a[4] ^ !a[0] & a[1],
-        a[5] ^ !a[6] & a[7],
-        a[6] ^ !a[7] & a[8],
-        a[7] ^ !a[8] & a[9],
-        a[8] ^ !a[9] & a[5],
-        a[9] ^ !a[5] & a[6],
-        a[10] ^ !a[11] & a[12],
-        a[11] ^ !a[12] & a[13],
-        a[12] ^ !a[13] & a[14],
-        a[13] ^ !a[14] & a[10],
-        a[14] ^ !a[10] & a[11],
-        a[15] ^ !a[16] & a[17],
-        a[16] ^ !a[17] & a[18],
-        a[17] ^ !a[18] & a[19],
-        a[18] ^ !a[19] & a[15],
-        a[19] ^ !a[15] & a[16],
-        a[20] ^ !a[21] & a[22],
-        a[21] ^ !a[22] & a[23],
-        a[22] ^ !a[23] & a[24],
-        a[23] ^ !a[24] & a[20],
-        a[24] ^ !a[20] & a[21],
-    ]
-}
-
-// The round constant goes into lane (0, 0).
-fn iota(a: [u64; 25], rc: u64) -> [u64; 25]
-    ensures { λ r. ⌜ r ≡ spec.iota rc a ⌝ }
-{
-    let mut b = a;
-    b[0] = a[0] ^ rc;
-    b
+    let e4 = b.4 ^ b.0 & b.1;
+    let e3 = b.3 ^ !(b.4 | b.0);
+    let e2 = b.2 ^ (b.3 | !b.4);
+    let e1 = b.1 ^ b.2 & b.3;
+    let e0 = b.0 ^ (b.1 | b.2);
+    Plane(e0, e1, e2, e3, e4)
 }
 
 // One round, for the round constant rc.
 pub fn round(a: [u64; 25], rc: u64) -> [u64; 25]
     ensures { λ r. ⌜ r ≡ spec.round rc a ⌝ }
 {
-    iota(chi(pi(rho(theta(a)))), rc)
+    let d = theta_effect(&a);
+    // All planes before chi: done plane by plane, the old lanes and the new ones would be held at once.
+    let b0 = theta_rho_pi(&a, d, 0);
+    let b1 = theta_rho_pi(&a, d, 1);
+    let b2 = theta_rho_pi(&a, d, 2);
+    let b3 = theta_rho_pi(&a, d, 3);
+    let b4 = theta_rho_pi(&a, d, 4);
+    let e0 = chi(b0);
+    let e1 = chi(b1);
+    let e2 = chi(b2);
+    let e3 = chi(b3);
+    let e4 = chi(b4);
+    [
+        e0.0 ^ rc,
+        e0.1,
+        e0.2,
+        e0.3,
+        e0.4,
+        e1.3,
+        e1.4,
+        e1.0,
+        e1.1,
+        e1.2,
+        e2.1,
+        e2.2,
+        e2.3,
+        e2.4,
+        e2.0,
+        e3.4,
+        e3.0,
+        e3.1,
+        e3.2,
+        e3.3,
+        e4.2,
+        e4.3,
+        e4.4,
+        e4.0,
+        e4.1,
+    ]
 }
