@@ -1,7 +1,7 @@
 //! KT128 with an empty customization string in ordinary Rust beside the proved one, in one process.
 //!
-//!   kangarootwelve compare                      64 MiB by each and in each way, alternating: best, median and ratio
-//!   kangarootwelve rattle|rust STEP|one N       the first N bytes of 1 MiB by one of them, for an instruction count
+//!   kangarootwelve compare                        64 MiB by each and in each way, alternating: best, median and ratio
+//!   kangarootwelve rattle|before|rust STEP|one N  the first N bytes of 1 MiB by one of them, for an instruction count
 //!
 //! The ways: absorbed in pieces of STEP bytes, or hashed in one go; 32 bytes of output. `compare` first holds the Rust to the draft's vectors.
 mod constants;
@@ -10,13 +10,19 @@ mod kt128;
 mod measure;
 mod sponge;
 
-use hashing::{pattern, Digest, Way};
+use hashing::{pattern, Digest, Hash, Way};
 use kt128::{kt128, Kt128, CHUNK};
 
 extern "C" {
-    // crates/bench/src/lib.rt; a slice passes as a pointer and a length.
     fn bench_kt_pieces(message: *const u8, message_len: usize, step: usize, out: *mut u8, out_len: usize) -> u8;
     fn bench_kt_one_go(message: *const u8, message_len: usize, out: *mut u8, out_len: usize) -> u8;
+}
+
+// The same of an earlier commit.
+#[cfg(before)]
+extern "C" {
+    fn before_kt_pieces(message: *const u8, message_len: usize, step: usize, out: *mut u8, out_len: usize) -> u8;
+    fn before_kt_one_go(message: *const u8, message_len: usize, out: *mut u8, out_len: usize) -> u8;
 }
 
 #[inline(never)]
@@ -29,17 +35,6 @@ fn rust(message: &[u8], way: Way, out: &mut Digest) {
         }
         None => kt128(message, &[], out),
     }
-}
-
-fn rattle(message: &[u8], way: Way, out: &mut Digest) {
-    // The callees read the message, write the output, and keep neither.
-    let status = unsafe {
-        match way {
-            Some(step) => bench_kt_pieces(message.as_ptr(), message.len(), step, out.as_mut_ptr(), out.len()),
-            None => bench_kt_one_go(message.as_ptr(), message.len(), out.as_mut_ptr(), out.len()),
-        }
-    };
-    assert_eq!(status, 0, "the proved one refuses");
 }
 
 /// Lengths of M and C, both the pattern, and the digest of 32 bytes that draft-irtf-cfrg-kangarootwelve-16 prints.
@@ -77,5 +72,11 @@ fn main() {
     if std::env::args().nth(1).as_deref() == Some("compare") {
         check();
     }
-    hashing::run("KT128", rattle, rust);
+    let versions = [
+        ("rattle", Hash::Proved(bench_kt_pieces, bench_kt_one_go)),
+        #[cfg(before)]
+        ("before", Hash::Proved(before_kt_pieces, before_kt_one_go)),
+        ("rust", Hash::Rust(rust)),
+    ];
+    hashing::run("KT128", &versions);
 }

@@ -1,21 +1,24 @@
-//! Times the proved version and the ordinary one in one process.
+//! Times several versions of one job in one process.
 use std::fmt::Debug;
 
-/// Calls the two in turn, `repeats` times each, and prints the best and the median of each and their ratio. Each gives its time and
-/// its result; the results must be equal.
-pub fn compare<R: Debug + PartialEq>(what: &str, unit: &str, repeats: usize, rattle: impl Fn() -> (f64, R), rust: impl Fn() -> (f64, R)) {
-    let (mut first, mut second) = (Vec::new(), Vec::new());
+/// Calls the versions in turn, `repeats` times each, and prints the best and the median of each, and the first's divided by each of the others'.
+/// `call` gives a version's time and its result; the results must be equal.
+pub fn compare<V, R: Debug + PartialEq>(what: &str, unit: &str, repeats: usize, versions: &[(&str, V)], call: impl Fn(&V) -> (f64, R)) {
+    let mut times = vec![Vec::new(); versions.len()];
     for _ in 0..repeats {
-        let (t, a) = rattle();
-        let (u, b) = rust();
-        assert_eq!(a, b, "the two disagree");
-        first.push(t);
-        second.push(u);
+        let results: Vec<(f64, R)> = versions.iter().map(|(_, version)| call(version)).collect();
+        for (k, (time, result)) in results.iter().enumerate() {
+            assert_eq!(*result, results[0].1, "{} disagrees", versions[k].0);
+            times[k].push(*time);
+        }
     }
-    first.sort_by(f64::total_cmp);
-    second.sort_by(f64::total_cmp);
+    times.iter_mut().for_each(|t| t.sort_by(f64::total_cmp));
     println!("{what}, {repeats} repeats of each, alternating");
-    let line = |name: &str, a: f64, b: f64| println!("{name:7} rattle {a:7.1} {unit}   rust {b:7.1} {unit}   ratio {:.3}", a / b);
-    line("best", first[0], second[0]);
-    line("median", first[repeats / 2], second[repeats / 2]);
+    for (name, at) in [("best", 0), ("median", repeats / 2)] {
+        print!("{name:7}");
+        for (k, (version, _)) in versions.iter().enumerate() {
+            print!(" {version} {:7.1} {unit}  ", times[k][at]);
+        }
+        println!(" ratio{}", times[1..].iter().map(|t| format!(" {:.3}", times[0][at] / t[at])).collect::<String>());
+    }
 }

@@ -1,7 +1,7 @@
 //! Keccak-p[1600, 12] in ordinary Rust beside the proved one, in one process.
 //!
-//!   permutation compare           a million permutations of each, alternating: best, median and ratio
-//!   permutation rattle|rust N     N permutations of one of them, for an instruction count
+//!   permutation compare                a million permutations of each, alternating: best, median and ratio
+//!   permutation rattle|before|rust N   N permutations of one of them, for an instruction count
 mod constants;
 mod measure;
 
@@ -11,6 +11,9 @@ use std::time::Instant;
 extern "C" {
     // crates/bench/src/lib.rt; the array passes as a pointer.
     fn bench_permute(lanes: &mut [u64; 25], count: usize);
+    // The same of an earlier commit.
+    #[cfg(before)]
+    fn before_permute(lanes: &mut [u64; 25], count: usize);
 }
 
 /// The walk of rho and pi over the lanes: where each lane goes, and by how much it is rotated.
@@ -54,31 +57,39 @@ fn rust_permute(lanes: &mut [u64; 25], count: usize) {
     *lanes = a;
 }
 
-fn rattle_permute(lanes: &mut [u64; 25], count: usize) {
-    // The callee reads and writes the 25 words and nothing else.
-    unsafe { bench_permute(lanes, count) }
+/// Permutes the lanes so many times.
+enum Permutation {
+    Proved(unsafe extern "C" fn(&mut [u64; 25], usize)),
+    Rust(fn(&mut [u64; 25], usize)),
 }
 
 /// Nanoseconds a permutation over `count` of them from the zero state, and a lane of the result.
-fn timed(f: fn(&mut [u64; 25], usize), count: usize) -> (f64, u64) {
+fn timed(permutation: &Permutation, count: usize) -> (f64, u64) {
     let mut lanes = [0u64; 25];
     let start = Instant::now();
-    f(&mut lanes, count);
+    match permutation {
+        // The callee reads and writes the 25 words and nothing else.
+        Permutation::Proved(f) => unsafe { f(&mut lanes, count) },
+        Permutation::Rust(f) => f(&mut lanes, count),
+    }
     (start.elapsed().as_nanos() as f64 / count as f64, lanes[0])
 }
 
-fn compare(count: usize, repeats: usize) {
-    let what = format!("{count} permutations, ns for one");
-    measure::compare(&what, "ns", repeats, || timed(rattle_permute, count), || timed(rust_permute, count));
-}
-
 fn main() {
+    let versions = [
+        ("rattle", Permutation::Proved(bench_permute)),
+        #[cfg(before)]
+        ("before", Permutation::Proved(before_permute)),
+        ("rust", Permutation::Rust(rust_permute)),
+    ];
     let words: Vec<String> = std::env::args().skip(1).collect();
     let words: Vec<&str> = words.iter().map(String::as_str).collect();
     match words[..] {
-        ["compare"] => compare(1_000_000, 15),
-        ["rattle", n] => println!("{:016x}", timed(rattle_permute, n.parse().unwrap()).1),
-        ["rust", n] => println!("{:016x}", timed(rust_permute, n.parse().unwrap()).1),
-        _ => panic!("permutation compare | rattle N | rust N"),
+        ["compare"] => measure::compare("1000000 permutations, ns for one", "ns", 15, &versions, |p| timed(p, 1_000_000)),
+        [version, n] => {
+            let found = versions.iter().find(|(v, _)| *v == version).expect("a version's name");
+            println!("{:016x}", timed(&found.1, n.parse().unwrap()).1);
+        }
+        _ => panic!("permutation compare | VERSION N"),
     }
 }

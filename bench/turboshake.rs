@@ -1,7 +1,7 @@
 //! TurboSHAKE128 with D = 1F in ordinary Rust beside the proved one, in one process.
 //!
-//!   turboshake compare                      64 MiB by each and in each way, alternating: best, median and ratio
-//!   turboshake rattle|rust STEP|one N       the first N bytes of 1 MiB by one of them, for an instruction count
+//!   turboshake compare                        64 MiB by each and in each way, alternating: best, median and ratio
+//!   turboshake rattle|before|rust STEP|one N  the first N bytes of 1 MiB by one of them, for an instruction count
 //!
 //! The ways: absorbed in pieces of STEP bytes, or hashed in one go; 32 bytes of output.
 mod constants;
@@ -9,13 +9,19 @@ mod hashing;
 mod measure;
 mod sponge;
 
-use hashing::{Digest, Way};
+use hashing::{Digest, Hash, Way};
 use sponge::TurboShake128;
 
 extern "C" {
-    // crates/bench/src/lib.rt; a slice passes as a pointer and a length.
     fn bench_pieces(message: *const u8, message_len: usize, step: usize, out: *mut u8, out_len: usize) -> u8;
     fn bench_one_go(message: *const u8, message_len: usize, out: *mut u8, out_len: usize) -> u8;
+}
+
+// The same of an earlier commit.
+#[cfg(before)]
+extern "C" {
+    fn before_pieces(message: *const u8, message_len: usize, step: usize, out: *mut u8, out_len: usize) -> u8;
+    fn before_one_go(message: *const u8, message_len: usize, out: *mut u8, out_len: usize) -> u8;
 }
 
 const DOMAIN: u8 = 0x1F;
@@ -31,17 +37,12 @@ fn rust(message: &[u8], way: Way, out: &mut Digest) {
     run.squeeze(out);
 }
 
-fn rattle(message: &[u8], way: Way, out: &mut Digest) {
-    // The callees read the message, write the output, and keep neither.
-    let status = unsafe {
-        match way {
-            Some(step) => bench_pieces(message.as_ptr(), message.len(), step, out.as_mut_ptr(), out.len()),
-            None => bench_one_go(message.as_ptr(), message.len(), out.as_mut_ptr(), out.len()),
-        }
-    };
-    assert_eq!(status, 0, "the proved one refuses");
-}
-
 fn main() {
-    hashing::run("TurboSHAKE128", rattle, rust);
+    let versions = [
+        ("rattle", Hash::Proved(bench_pieces, bench_one_go)),
+        #[cfg(before)]
+        ("before", Hash::Proved(before_pieces, before_one_go)),
+        ("rust", Hash::Rust(rust)),
+    ];
+    hashing::run("TurboSHAKE128", &versions);
 }
