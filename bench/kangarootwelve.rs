@@ -7,6 +7,7 @@
 mod constants;
 mod hashing;
 mod kt128;
+mod lanes;
 mod measure;
 mod sponge;
 

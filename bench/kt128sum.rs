@@ -4,6 +4,7 @@
 mod constants;
 #[allow(dead_code)] // the call in one go, which the benchmark has beside this one
 mod kt128;
+mod lanes;
 mod sponge;
 
 use std::io::Read;

@@ -1,8 +1,11 @@
 //! Keccak-p[1600, 12] in ordinary Rust beside the proved one, in one process.
 //!
 //!   permutation compare                a million permutations of each, alternating: best, median and ratio
-//!   permutation rattle|before|rust N   N permutations of one of them, for an instruction count
+//!   permutation VERSION N              N permutations of one of them, for an instruction count
+//!
+//! The versions: rattle, before, and two of ordinary Rust: rust, with an array and loops, and locals, with the lanes in locals.
 mod constants;
+mod lanes;
 mod measure;
 
 use constants::ROUND_CONSTANTS;
@@ -20,6 +23,7 @@ extern "C" {
 const TARGETS: [usize; 24] = [10, 7, 11, 17, 18, 3, 5, 16, 8, 21, 24, 4, 15, 23, 19, 13, 12, 2, 20, 14, 22, 9, 6, 1];
 const ROTATIONS: [u32; 24] = [1, 3, 6, 10, 15, 21, 28, 36, 45, 55, 2, 14, 27, 41, 56, 8, 25, 43, 62, 18, 39, 61, 20, 44];
 
+#[inline(never)]
 fn permute(a: &mut [u64; 25]) {
     for constant in ROUND_CONSTANTS {
         let mut c = [0u64; 5];
@@ -49,12 +53,16 @@ fn permute(a: &mut [u64; 25]) {
 }
 
 #[inline(never)]
-fn rust_permute(lanes: &mut [u64; 25], count: usize) {
-    let mut a = *lanes;
-    for _ in 0..count {
-        permute(&mut a);
-    }
-    *lanes = a;
+fn permute_locals(lanes: &mut [u64; 25]) {
+    lanes::permute(lanes)
+}
+
+fn rust(lanes: &mut [u64; 25], count: usize) {
+    (0..count).for_each(|_| permute(lanes))
+}
+
+fn locals(lanes: &mut [u64; 25], count: usize) {
+    (0..count).for_each(|_| permute_locals(lanes))
 }
 
 /// Permutes the lanes so many times.
@@ -80,7 +88,8 @@ fn main() {
         ("rattle", Permutation::Proved(bench_permute)),
         #[cfg(before)]
         ("before", Permutation::Proved(before_permute)),
-        ("rust", Permutation::Rust(rust_permute)),
+        ("rust", Permutation::Rust(rust)),
+        ("locals", Permutation::Rust(locals)),
     ];
     let words: Vec<String> = std::env::args().skip(1).collect();
     let words: Vec<&str> = words.iter().map(String::as_str).collect();

@@ -6,6 +6,7 @@
 //! The ways: absorbed in pieces of STEP bytes, or hashed in one go; 32 bytes of output.
 mod constants;
 mod hashing;
+mod lanes;
 mod measure;
 mod sponge;
 
