@@ -89,7 +89,7 @@ rotl-bit x n z hx hn hz =
 -- ---- inversion
 
 -- the quotient and the remainder by p of all ones less x
-pub less : (ones p a q r : ℕ) → ones ≡ a * p + (p - 1) → q ≤ a → r < p → ones - (q * p + r) ≡ (a - q) * p + (p - 1 - r)
+less : (ones p a q r : ℕ) → ones ≡ a * p + (p - 1) → q ≤ a → r < p → ones - (q * p + r) ≡ (a - q) * p + (p - 1 - r)
 less ones p a q r e hq hr =
     let d : ℕ = a - q in
     let ea : a ≡ d + q = omega arith in
@@ -98,6 +98,11 @@ less ones p a q r e hq hr =
 
 odd-less : (p q : ℕ) → q < 2 * p → (2 * p - 1 - q) % 2 ≡ 1 - q % 2
 odd-less p q h = omega arith
+
+-- a word in two parts, of m and n bits, is inverted part by part
+pub complement-parts : (m n q r : ℕ) → m + n ≡ 64 → q < 2 ^ m → r < 2 ^ n → complement (q * 2 ^ n + r) ≡ ((2 ^ m - 1) - q) * 2 ^ n + ((2 ^ n - 1) - r)
+unfolding complement
+complement-parts m n q r e hq hr = less (2 ^ 64 - 1) (2 ^ n) (2 ^ m - 1) q r (ap (λ (k : ℕ). 2 ^ k - 1) (sym e) ∙ ones-split m n) (le-ones m hq) hr
 
 -- complement x inverts every bit
 pub complement-bit : (x z : ℕ) → x < 2 ^ 64 → z < 64 → bit (complement x) z ≡ 1 - bit x z
@@ -108,9 +113,7 @@ complement-bit x z hx hz =
     let q : ℕ = x / 2 ^ z in
     let hq : q < 2 ^ (j + 1) = shr-lt (j + 1) z (subst (λ (k : ℕ). x < 2 ^ k) e hx) in
     let two : 2 ^ (j + 1) ≡ 2 * 2 ^ j = pow-add 2 j 1 ∙ mul-comm (2 ^ j) 2 in
-    let parts : (2 ^ 64 - 1) - x ≡ ((2 ^ (j + 1) - 1) - q) * 2 ^ z + (2 ^ z - 1 - x % 2 ^ z) =
-    ap (λ (y : ℕ). (2 ^ 64 - 1) - y) (sym (split x z))
-    ∙ less (2 ^ 64 - 1) (2 ^ z) (2 ^ (j + 1) - 1) q (x % 2 ^ z) (ap (λ (k : ℕ). 2 ^ k - 1) e ∙ ones-split (j + 1) z) (le-ones (j + 1) hq)
-    (mod-lt x (pow-pos z)) in
+    let parts : complement x ≡ ((2 ^ (j + 1) - 1) - q) * 2 ^ z + (2 ^ z - 1 - x % 2 ^ z) =
+    ap complement (sym (split x z)) ∙ complement-parts (j + 1) z q (x % 2 ^ z) (sym e) hq (mod-lt x (pow-pos z)) in
     ap (λ (y : ℕ). bit y z) parts ∙ ap (λ (y : ℕ). y % 2) (high ((2 ^ (j + 1) - 1) - q) z (ones-sub-lt z (x % 2 ^ z)))
     ∙ ap (λ (y : ℕ). (y - 1 - q) % 2) two ∙ odd-less (2 ^ j) q (subst (λ (k : ℕ). q < k) two hq)

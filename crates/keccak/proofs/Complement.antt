@@ -5,10 +5,10 @@ use Prim.Native.Nat.{ℕ, zero, suc, _+_, _-_, _*_, _/_, _%_, _^_, _<_, min}
 use native.Mathlib.Nat.{add-comm, mod-lt}
 use native.Mathlib.Omega.{arith}
 use lib.Bits.{bitAnd, bitOr, bitXor, and-step, and-zero-l, or-add-and, xor-add-and, and-comm, xor-comm, xor-lt}
-use lib.Pow.{pow-pos, high, low, split, shr-lt, ones-split, ones-sub-lt, le-ones}
+use lib.Pow.{pow-pos, high, low, split, shr-lt, ones-sub-lt}
 use Rattle.keccak.specs.Round.{rotl, complement}
 use Rattle.keccak.proofs.Words.{complement-lt}
-use Rattle.keccak.proofs.Bits.{rotl-sum, less}
+use Rattle.keccak.proofs.Bits.{rotl-sum, complement-parts}
 
 -- ---- what a word shares with y and with y inverted
 
@@ -65,31 +65,27 @@ complement-or x y hx hy =
     let t : bitAnd y (complement x) + bitAnd y x ≡ y = shared y x hy hx in
     omega (arith, s, t, and-comm (complement x) y, and-comm y x, or-add-and x y)
 
--- a word of two parts inverted, the high one of m bits and the low one of n
-less-ones : (m n q r : ℕ) → m + n ≡ 64 → q < 2 ^ m → r < 2 ^ n → complement (q * 2 ^ n + r) ≡ ((2 ^ m - 1) - q) * 2 ^ n + ((2 ^ n - 1) - r)
-unfolding complement
-less-ones m n q r e hq hr =
-    less (2 ^ 64 - 1) (2 ^ n) (2 ^ m - 1) q r (ap (λ (k : ℕ). 2 ^ k - 1) (sym e) ∙ ones-split m n) (le-ones m hq) hr
+-- ---- rotation
 
 module _ (x m n : ℕ) (h : 0 < n) (e : m + n ≡ 64) (hx : x < 2 ^ 64) where
-  back : n + m ≡ 64
-  back = add-comm n m ∙ e
+  swapped : n + m ≡ 64
+  swapped = add-comm n m ∙ e
 
   high-part : x / 2 ^ m < 2 ^ n
-  high-part = shr-lt n m (subst (λ (k : ℕ). x < 2 ^ k) (sym back) hx)
+  high-part = shr-lt n m (subst (λ (k : ℕ). x < 2 ^ k) (sym swapped) hx)
 
   low-part : x % 2 ^ m < 2 ^ m
   low-part = mod-lt x (pow-pos m)
 
   inverse : complement x ≡ ((2 ^ n - 1) - x / 2 ^ m) * 2 ^ m + ((2 ^ m - 1) - x % 2 ^ m)
-  inverse = ap complement (sym (split x m)) ∙ less-ones n m (x / 2 ^ m) (x % 2 ^ m) back high-part low-part
+  inverse = ap complement (sym (split x m)) ∙ complement-parts n m (x / 2 ^ m) (x % 2 ^ m) swapped high-part low-part
 
   rotl-some : rotl (complement x) n ≡ complement (rotl x n)
   rotl-some =
       let low-inverse : complement x % 2 ^ m ≡ (2 ^ m - 1) - x % 2 ^ m = ap (λ (y : ℕ). y % 2 ^ m) inverse ∙ low _ m (ones-sub-lt m (x % 2 ^ m)) in
       let high-inverse : complement x / 2 ^ m ≡ (2 ^ n - 1) - x / 2 ^ m = ap (λ (y : ℕ). y / 2 ^ m) inverse ∙ high _ m (ones-sub-lt m (x % 2 ^ m)) in
       rotl-sum (complement x) m n h e (complement-lt x) ∙ ap₂ (λ (u v : ℕ). u * 2 ^ n + v) low-inverse high-inverse
-      ∙ sym (less-ones m n (x % 2 ^ m) (x / 2 ^ m) e low-part high-part) ∙ ap complement (sym (rotl-sum x m n h e hx))
+      ∙ sym (complement-parts m n (x % 2 ^ m) (x / 2 ^ m) e low-part high-part) ∙ ap complement (sym (rotl-sum x m n h e hx))
 
 pub rotl-complement : (x n : ℕ) → x < 2 ^ 64 → n < 64 → rotl (complement x) n ≡ complement (rotl x n)
 unfolding rotl

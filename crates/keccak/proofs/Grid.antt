@@ -1,4 +1,4 @@
--- How long a grid is, what stands at an index of it, and how large that is.
+-- How long `from` and a grid are, what stands at an index of the former, and that the lanes of a grid of words are words.
 -- Assumes nothing.
 use mathlib.Core.Path.{_≡_, refl, sym, ap, _∙_}
 use Prim.Native.Nat.{ℕ, zero, suc, _+_, _/_, _%_, _^_, _<_}

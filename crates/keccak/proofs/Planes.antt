@@ -17,27 +17,27 @@ use Rattle.keccak.proofs.Complement.{complement-twice, xor-complement, 
 -- ---- what the three functions ensure of their results, in the contracts' order
 
 -- of `theta_effect`: D, made with C[1] inverted
-abbrev pub Effects : List ℕ → Plane → Type 0
-Effects a d =
+abbrev pub IsEffect : List ℕ → Plane → Type 0
+IsEffect a d =
     (d .0 ≡ bitXor (parity a 4) (rotl (complement (parity a 1)) 1))
     × ((d .1 ≡ bitXor (parity a 0) (rotl (parity a 2) 1))
     × ((d .2 ≡ bitXor (complement (parity a 1)) (rotl (parity a 3) 1))
     × ((d .3 ≡ bitXor (parity a 2) (rotl (parity a 4) 1))
     × (d .4 ≡ bitXor (parity a 3) (rotl (parity a 0) 1)))))
 
--- lane (k, k + 2 y) after theta and rho, where d is D[k]
-abbrev moved : List ℕ → ℕ → ℕ → ℕ → ℕ
-moved a y k d = rotl (bitXor (lane a k (k + 2 * y)) d) (lane offsets k (k + 2 * y))
+-- lane (k, k + 2 y) after theta and rho where d is D[k], and inverted where d is D[k] inverted
+abbrev theta-rho : List ℕ → ℕ → ℕ → ℕ → ℕ
+theta-rho a y k d = rotl (bitXor (lane a k (k + 2 * y)) d) (lane offsets k (k + 2 * y))
 
 -- of `theta_rho_pi`, for plane y
-abbrev pub Moved : List ℕ → Plane → ℕ → Plane → Type 0
-Moved a d y b =
-    (b .0 ≡ moved a y 0 (d .0))
-    × ((b .1 ≡ moved a y 1 (d .1)) × ((b .2 ≡ moved a y 2 (d .2)) × ((b .3 ≡ moved a y 3 (d .3)) × (b .4 ≡ moved a y 4 (d .4)))))
+abbrev pub IsMoved : List ℕ → Plane → ℕ → Plane → Type 0
+IsMoved a d y b =
+    (b .0 ≡ theta-rho a y 0 (d .0))
+    × ((b .1 ≡ theta-rho a y 1 (d .1)) × ((b .2 ≡ theta-rho a y 2 (d .2)) × ((b .3 ≡ theta-rho a y 3 (d .3)) × (b .4 ≡ theta-rho a y 4 (d .4)))))
 
 -- of `chi`
-abbrev pub Mixed : Plane → Plane → Type 0
-Mixed b e =
+abbrev pub IsMixed : Plane → Plane → Type 0
+IsMixed b e =
     (e .0 ≡ bitXor (complement (b .0)) (bitAnd (complement (b .1)) (complement (b .2))))
     × ((e .1 ≡ bitXor (b .1) (bitAnd (b .2) (b .3)))
     × ((e .2 ≡ bitXor (complement (b .2)) (bitAnd (complement (b .3)) (b .4)))
@@ -50,17 +50,17 @@ Mixed b e =
 abbrev effect : List ℕ → ℕ → ℕ
 effect a x = bitXor (parity a (x + 4)) (rotl (parity a (x + 1)) 1)
 
--- the lane of column k in plane y after theta, rho and pi
-abbrev before : List ℕ → ℕ → ℕ → ℕ
-before a y k = moved a y k (effect a k)
+-- lane k of plane y after theta, rho and pi
+abbrev lane-before : List ℕ → ℕ → ℕ → ℕ
+lane-before a y k = theta-rho a y k (effect a k)
 
--- what chi makes of the lanes of columns k, l and m in it
-abbrev after : List ℕ → ℕ → ℕ → ℕ → ℕ → ℕ
-after a y k l m = bitXor (before a y k) (bitAnd (complement (before a y l)) (before a y m))
+-- what chi makes of the lanes k, l and m of it
+abbrev lane-after : List ℕ → ℕ → ℕ → ℕ → ℕ → ℕ
+lane-after a y k l m = bitXor (lane-before a y k) (bitAnd (complement (lane-before a y l)) (lane-before a y m))
 
--- plane y after chi, its lanes by their columns before pi
+-- plane y after chi; its lane k stands at x = k + 2 y
 abbrev pub plane : List ℕ → ℕ → Plane
-plane a y = record { 0 = after a y 0 1 2; 1 = after a y 1 2 3; 2 = after a y 2 3 4; 3 = after a y 3 4 0; 4 = after a y 4 0 1 }
+plane a y = record { 0 = lane-after a y 0 1 2; 1 = lane-after a y 1 2 3; 2 = lane-after a y 2 3 4; 3 = lane-after a y 3 4 0; 4 = lane-after a y 4 0 1 }
 
 -- the 25 lanes of five such planes, each at its place, with the round constant
 abbrev pub state : Plane → Plane → Plane → Plane → Plane → ℕ → List ℕ
@@ -81,43 +81,43 @@ module _ (a : List ℕ) (s : State a) where
   effect-lt : (x : ℕ) → effect a x < 2 ^ 64
   effect-lt x = xor-lt 64 _ _ (parity-lt a s (x + 4)) (rotl-lt _ 1 (parity-lt a s (x + 1)))
 
-  before-lt : (y k : ℕ) → before a y k < 2 ^ 64
-  before-lt y k = rotl-lt _ _ (xor-lt 64 _ _ (lane-lt a s k (k + 2 * y)) (effect-lt k))
+  lane-before-lt : (y k : ℕ) → lane-before a y k < 2 ^ 64
+  lane-before-lt y k = rotl-lt _ _ (xor-lt 64 _ _ (lane-lt a s k (k + 2 * y)) (effect-lt k))
 
   -- a lane that takes up an inverted D comes out inverted
-  inverted : (y k d b : ℕ) → d ≡ complement (effect a k) → b ≡ moved a y k d → b ≡ complement (before a y k)
+  inverted : (y k d b : ℕ) → d ≡ complement (effect a k) → b ≡ theta-rho a y k d → b ≡ complement (lane-before a y k)
   inverted y k d b ed eb =
       let x : ℕ = lane a k (k + 2 * y) in
       let n : ℕ = lane offsets k (k + 2 * y) in
-      eb ∙ ap (moved a y k) ed ∙ ap (λ (w : ℕ). rotl w n) (xor-complement x (effect a k) (lane-lt a s k (k + 2 * y)) (effect-lt k))
+      eb ∙ ap (theta-rho a y k) ed ∙ ap (λ (w : ℕ). rotl w n) (xor-complement x (effect a k) (lane-lt a s k (k + 2 * y)) (effect-lt k))
       ∙ rotl-complement (bitXor x (effect a k)) n (xor-lt 64 _ _ (lane-lt a s k (k + 2 * y)) (effect-lt k)) (offset-small (k % 5 + 5 * ((k + 2 * y) % 5)) (omega arith))
 
-  back : (y k b : ℕ) → b ≡ complement (before a y k) → complement b ≡ before a y k
-  back y k b e = ap complement e ∙ complement-twice (before a y k) (before-lt y k)
+  plain : (y k b : ℕ) → b ≡ complement (lane-before a y k) → complement b ≡ lane-before a y k
+  plain y k b e = ap complement e ∙ complement-twice (lane-before a y k) (lane-before-lt y k)
 
-  -- D[0] and D[2] are inverted, as C[1] is
-  first-inverted : (d : Plane) → Effects a d → d .0 ≡ complement (effect a 0)
-  first-inverted d h =
+  -- D[0] and D[2] are inverted, as C[1] is. `parity` is unfolded where x + 4 or x + 1 passes 4: parity a 6 is parity a 1
+  d0-inverted : (d : Plane) → IsEffect a d → d .0 ≡ complement (effect a 0)
+  d0-inverted d h =
       h .0 ∙ ap (bitXor (parity a 4)) (rotl-complement (parity a 1) 1 (parity-lt a s 1) (lit< tt))
       ∙ xor-complement (parity a 4) (rotl (parity a 1) 1) (parity-lt a s 4) (rotl-lt _ 1 (parity-lt a s 1))
 
-  third-inverted : (d : Plane) → Effects a d → d .2 ≡ complement (effect a 2)
+  d2-inverted : (d : Plane) → IsEffect a d → d .2 ≡ complement (effect a 2)
   unfolding parity
-  third-inverted d h = h .1 .1 .0 ∙ complement-xor (parity a 1) (rotl (parity a 3) 1) (parity-lt a s 1) (rotl-lt _ 1 (parity-lt a s 3))
+  d2-inverted d h = h .1 .1 .0 ∙ complement-xor (parity a 1) (rotl (parity a 3) 1) (parity-lt a s 1) (rotl-lt _ 1 (parity-lt a s 3))
 
-  pub plane-is : (d b e : Plane) (y : ℕ) → Effects a d → Moved a d y b → Mixed b e → e ≡ plane a y
+  pub plane-is : (d b e : Plane) (y : ℕ) → IsEffect a d → IsMoved a d y b → IsMixed b e → e ≡ plane a y
   unfolding parity
   plane-is d b e y hd hb he =
-      let b0 : b .0 ≡ complement (before a y 0) = inverted y 0 (d .0) (b .0) (first-inverted d hd) (hb .0) in
-      let b1 : b .1 ≡ before a y 1 = hb .1 .0 ∙ ap (moved a y 1) (hd .1 .0) in
-      let b2 : b .2 ≡ complement (before a y 2) = inverted y 2 (d .2) (b .2) (third-inverted d hd) (hb .1 .1 .0) in
-      let b3 : b .3 ≡ before a y 3 = hb .1 .1 .1 .0 ∙ ap (moved a y 3) (hd .1 .1 .1 .0) in
-      let b4 : b .4 ≡ before a y 4 = hb .1 .1 .1 .1 ∙ ap (moved a y 4) (hd .1 .1 .1 .1) in
-      let n0 : complement (b .0) ≡ before a y 0 = back y 0 (b .0) b0 in
-      let n2 : complement (b .2) ≡ before a y 2 = back y 2 (b .2) b2 in
-      let e0 : e .0 ≡ after a y 0 1 2 = he .0 ∙ cc (n0, b1, n2) in
-      let e1 : e .1 ≡ after a y 1 2 3 = he .1 .0 ∙ cc (b1, b2, b3) in
-      let e2 : e .2 ≡ after a y 2 3 4 = he .1 .1 .0 ∙ cc (n2, b3, b4) in
-      let e3 : e .3 ≡ after a y 3 4 0 = he .1 .1 .1 .0 ∙ cc (b3, b4, n0) in
-      let e4 : e .4 ≡ after a y 4 0 1 = he .1 .1 .1 .1 ∙ cc (b4, b0, b1) in
+      let b0 : b .0 ≡ complement (lane-before a y 0) = inverted y 0 (d .0) (b .0) (d0-inverted d hd) (hb .0) in
+      let b1 : b .1 ≡ lane-before a y 1 = hb .1 .0 ∙ ap (theta-rho a y 1) (hd .1 .0) in
+      let b2 : b .2 ≡ complement (lane-before a y 2) = inverted y 2 (d .2) (b .2) (d2-inverted d hd) (hb .1 .1 .0) in
+      let b3 : b .3 ≡ lane-before a y 3 = hb .1 .1 .1 .0 ∙ ap (theta-rho a y 3) (hd .1 .1 .1 .0) in
+      let b4 : b .4 ≡ lane-before a y 4 = hb .1 .1 .1 .1 ∙ ap (theta-rho a y 4) (hd .1 .1 .1 .1) in
+      let n0 : complement (b .0) ≡ lane-before a y 0 = plain y 0 (b .0) b0 in
+      let n2 : complement (b .2) ≡ lane-before a y 2 = plain y 2 (b .2) b2 in
+      let e0 : e .0 ≡ lane-after a y 0 1 2 = he .0 ∙ cc (n0, b1, n2) in
+      let e1 : e .1 ≡ lane-after a y 1 2 3 = he .1 .0 ∙ cc (b1, b2, b3) in
+      let e2 : e .2 ≡ lane-after a y 2 3 4 = he .1 .1 .0 ∙ cc (n2, b3, b4) in
+      let e3 : e .3 ≡ lane-after a y 3 4 0 = he .1 .1 .1 .0 ∙ cc (b3, b4, n0) in
+      let e4 : e .4 ≡ lane-after a y 4 0 1 = he .1 .1 .1 .1 ∙ cc (b4, b0, b1) in
       plane-same e (plane a y) e0 e1 e2 e3 e4

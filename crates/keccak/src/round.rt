@@ -1,7 +1,7 @@
 // One round of the permutation: FIPS 202, sections 3.2 and 3.3, with the lanes in locals.
 //
-// One parity, C[1], is held inverted. theta takes it up in D[0] and D[2] alone, so the lanes of columns 0 and 2 reach chi inverted. pi brings
-// each plane one lane of each column, and these two stand two apart: so chi needs two inversions in a plane instead of five.
+// One parity, C[1], is held inverted. theta takes it up in D[0] and D[2] alone, so the lanes with x = 0 and x = 2 reach chi inverted. pi brings
+// each plane one lane of each x, and these two stand two apart: so chi needs two inversions in a plane instead of five.
 ghost use mathlib.Core.Path.{_≡_};
 ghost use Prim.Native.Nat.{_<_, _+_, _*_};
 ghost use lib.Bits.{bitAnd, bitXor};
@@ -9,7 +9,7 @@ ghost use Rattle.keccak.specs.State.{lane};
 ghost use Rattle.keccak.specs.Round as spec;
 use crate::OFFSETS;
 
-// Five lanes, one of each column of the state before pi: theta's D, or a plane.
+// Five words by their x before pi: theta's D, or plane y, whose lane k stands at x = k + 2 y.
 struct Plane(u64, u64, u64, u64, u64);
 
 // x rotated left by n places.
@@ -23,7 +23,7 @@ fn rotate_left(x: u64, n: u64) -> u64
     x << n | x >> (64 - n)
 }
 
-// theta's D, made with C[1] inverted.
+// theta's D, made with C[1] inverted, so that D[0] and D[2] come out inverted.
 fn theta_effect(a: &[u64; 25]) -> Plane
     ensures { λ r. ⌜ r .0 ≡ bitXor (spec.parity (now (a .entry)) 4) (spec.rotl (spec.complement (spec.parity (now (a .entry)) 1)) 1) ⌝ }
     ensures { λ r. ⌜ r .1 ≡ bitXor (spec.parity (now (a .entry)) 0) (spec.rotl (spec.parity (now (a .entry)) 2) 1) ⌝ }
@@ -45,7 +45,7 @@ fn theta_effect(a: &[u64; 25]) -> Plane
     )
 }
 
-// Lane (k, k + 2 y) after theta and rho, where d is D[k]. Inlined, k and y are constants, and so are the index and the offset.
+// Lane (k, k + 2 y) after theta and rho, where d is D[k]; inverted, where d is. Inlined, k and y are constants, and so are the index and the offset.
 fn theta_rho(a: &[u64; 25], d: u64, k: usize, y: usize) -> u64
     requires { ⌜ (k < 5) × (y < 5) ⌝ }
     ensures { λ r. ⌜ r ≡ spec.rotl (bitXor (lane (now (a .entry)) k (k + 2 * y)) d) (lane spec.offsets k (k + 2 * y)) ⌝ }
@@ -55,7 +55,7 @@ fn theta_rho(a: &[u64; 25], d: u64, k: usize, y: usize) -> u64
     rotate_left(a[i] ^ d, offsets[i])
 }
 
-// The lanes that pi brings to plane y: the one of column k stands at (k + 2 y, y).
+// The lanes that pi brings to plane y.
 fn theta_rho_pi(a: &[u64; 25], d: Plane, y: usize) -> Plane
     requires { ⌜ y < 5 ⌝ }
     ensures { λ r. ⌜ r .0 ≡ spec.rotl (bitXor (lane (now (a .entry)) 0 (0 + 2 * y)) (d .0)) (lane spec.offsets 0 (0 + 2 * y)) ⌝ }
@@ -73,7 +73,8 @@ fn theta_rho_pi(a: &[u64; 25], d: Plane, y: usize) -> Plane
     )
 }
 
-// chi of a plane whose lanes 0 and 2 are given inverted. From the last lane to the first: so the compiler moves fewer of them to and from the stack.
+// chi of a plane whose lanes 0 and 2 are given inverted; all five come out plain. From the last to the first: so the compiler moves fewer of them to
+// and from the stack.
 fn chi(b: Plane) -> Plane
     ensures { λ r. ⌜ r .0 ≡ bitXor (spec.complement (b .0)) (bitAnd (spec.complement (b .1)) (spec.complement (b .2))) ⌝ }
     ensures { λ r. ⌜ r .1 ≡ bitXor (b .1) (bitAnd (b .2) (b .3)) ⌝ }
@@ -89,12 +90,12 @@ fn chi(b: Plane) -> Plane
     Plane(e0, e1, e2, e3, e4)
 }
 
-// One round, for the round constant rc.
+// One round, for the round constant rc. All planes go through pi before the first goes through chi: one by one, the old lanes and the new ones
+// would be held at once.
 pub fn round(a: [u64; 25], rc: u64) -> [u64; 25]
     ensures { λ r. ⌜ r ≡ spec.round rc a ⌝ }
 {
     let d = theta_effect(&a);
-    // All planes before chi: done plane by plane, the old lanes and the new ones would be held at once.
     let b0 = theta_rho_pi(&a, d, 0);
     let b1 = theta_rho_pi(&a, d, 1);
     let b2 = theta_rho_pi(&a, d, 2);
@@ -105,6 +106,7 @@ pub fn round(a: [u64; 25], rc: u64) -> [u64; 25]
     let e2 = chi(b2);
     let e3 = chi(b3);
     let e4 = chi(b4);
+    // Lane (x, y) is lane x - 2 y of e_y.
     [
         e0.0 ^ rc,
         e0.1,
