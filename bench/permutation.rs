@@ -71,8 +71,8 @@ enum Permutation {
     Rust(fn(&mut [u64; 25], usize)),
 }
 
-/// Nanoseconds a permutation over `count` of them from the zero state, and a lane of the result.
-fn timed(permutation: &Permutation, count: usize) -> (f64, u64) {
+/// Nanoseconds a permutation over `count` of them from the zero state, and the result.
+fn timed(permutation: &Permutation, count: usize) -> (f64, [u64; 25]) {
     let mut lanes = [0u64; 25];
     let start = Instant::now();
     match permutation {
@@ -80,7 +80,7 @@ fn timed(permutation: &Permutation, count: usize) -> (f64, u64) {
         Permutation::Proved(f) => unsafe { f(&mut lanes, count) },
         Permutation::Rust(f) => f(&mut lanes, count),
     }
-    (start.elapsed().as_nanos() as f64 / count as f64, lanes[0])
+    (start.elapsed().as_nanos() as f64 / count as f64, lanes)
 }
 
 fn main() {
@@ -97,7 +97,7 @@ fn main() {
         ["compare"] => measure::compare("1000000 permutations, ns for one", "ns", 15, &versions, |p| timed(p, 1_000_000)),
         [version, n] => {
             let found = versions.iter().find(|(v, _)| *v == version).expect("a version's name");
-            println!("{:016x}", timed(&found.1, n.parse().unwrap()).1);
+            println!("{:016x}", timed(&found.1, n.parse().unwrap()).1[0]);
         }
         _ => panic!("permutation compare | VERSION N"),
     }
