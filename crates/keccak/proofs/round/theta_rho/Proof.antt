@@ -17,9 +17,11 @@ returns c =
     let s = c .before .before in
     let k = s .args .k in
     let y = s .args .y in
+    let turned : ℕ → ℕ =
+    λ (x : ℕ). rotl (bitXor (getD (now (s .args .a)) (x + 5 * ((k + 2 * y) % 5)) 0) (s .args .d)) (getD offsets (x + 5 * ((k + 2 * y) % 5)) 0) in
+    let computed : c .rotate-left .result ≡ turned k = c .rotate-left .ensures in
     let e : k % 5 ≡ k = omega arith in
-    c .rotate-left .ensures
-    ∙ ap (λ (x : ℕ). rotl (bitXor (getD (now (s .args .a)) (x + 5 * ((k + 2 * y) % 5)) 0) (s .args .d)) (getD offsets (x + 5 * ((k + 2 * y) % 5)) 0)) (sym e)
+    computed ∙ ap turned (sym e)
 
 rotate-left-requires : tie.Need-rotate-left-requires
 rotate-left-requires c κs =
