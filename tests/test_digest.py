@@ -15,6 +15,7 @@ from pathlib import Path
 import reference
 
 PROGRAM = Path(__file__).resolve().parent.parent / "target/bin/digest"
+USAGE = b"usage: digest < FILE\n"
 LONG = 4_294_967_296  # more bytes than a number of 32 bits counts; the limit itself is slow_digest.py's
 
 
@@ -73,18 +74,18 @@ class Piped(unittest.TestCase):
 
     SECONDS = 300  # for one run of the program; the longest of the gate takes seconds
 
-    def output(self, process):
-        """What the program wrote, once it has ended."""
+    def output(self, process, errors=b""):
+        """What the program wrote, once it has ended; on standard error just this."""
         stop = threading.Timer(self.SECONDS, process.kill)
         stop.start()
         try:
-            out, errors = process.stdout.read(), process.stderr.read()
+            out, told = process.stdout.read(), process.stderr.read()
             process.wait()
         finally:
             stop.cancel()
             process.stdout.close()
             process.stderr.close()
-        self.assertEqual(errors, b"")
+        self.assertEqual(told, errors)
         self.assertGreaterEqual(process.returncode, 0, "ended by a signal")
         return out.decode("latin-1")
 
@@ -155,16 +156,41 @@ class Digest(Piped):
             self.assertEqual(long_line(size), line_of(reference.ptn(size)))
 
     def test_no_read(self):
-        """A directory, a file that is open for writing only, and no standard input at all."""
+        """A directory, a file that is open for writing only, and no standard input at all. The reason is told on standard error."""
         folder = os.open("/", os.O_RDONLY | os.O_DIRECTORY)
-        self.assertEqual(self.output(self.started(folder)), "read failed\n")
+        self.assertEqual(self.output(self.started(folder), b"read failed: Is a directory\n"), "read failed\n")
         os.close(folder)
         with tempfile.NamedTemporaryFile() as file:
             unreadable = os.open(file.name, os.O_WRONLY)
-            self.assertEqual(self.output(self.started(unreadable)), "read failed\n")
+            self.assertEqual(self.output(self.started(unreadable), b"read failed: Bad file descriptor\n"), "read failed\n")
             os.close(unreadable)
         closed = self.started(subprocess.DEVNULL, ("sh", "-c", 'exec "$0" <&-', str(PROGRAM)))
-        self.assertEqual(self.output(closed), "read failed\n")
+        self.assertEqual(self.output(closed, b"read failed: Bad file descriptor\n"), "read failed\n")
+
+    def test_no_read_no_write(self):
+        """Neither the input can be read nor the line written: both are told, each with its own reason."""
+        folder = os.open("/", os.O_RDONLY | os.O_DIRECTORY)
+        with open("/dev/full", "wb") as full:
+            done = subprocess.run([str(PROGRAM)], stdin=folder, stdout=full, stderr=subprocess.PIPE, timeout=self.SECONDS)
+        os.close(folder)
+        self.assertEqual(done.stderr, b"read failed: Is a directory\nwrite failed: No space left on device\n")
+
+    def test_arguments(self):
+        """Any argument, an empty one too: a usage line on standard error, nothing on standard output, and nothing is read.
+
+        The first input has bytes, as under cron; the second never ends, as in a terminal.
+        """
+        for words in (["day.log"], [""], ["-"], ["--help"], ["day.log", "night.log"], ["x" * 100_000]):
+            with self.subTest(words=[word[:10] for word in words]):
+                with tempfile.TemporaryFile() as file:
+                    file.write(reference.ptn(17**3))
+                    file.seek(0)
+                    self.assertEqual(self.output(self.started(file, (str(PROGRAM), *words)), USAGE), "")
+                    self.assertEqual(os.lseek(file.fileno(), 0, os.SEEK_CUR), 0)
+                reading, writing = os.pipe()
+                self.assertEqual(self.output(self.started(reading, (str(PROGRAM), *words)), USAGE), "")
+                os.close(reading)
+                os.close(writing)
 
     def test_full_disk(self):
         """A line that cannot be written is told on standard error: the kit's programs have no exit status of their own."""
@@ -183,7 +209,7 @@ class Digest(Piped):
                 write_all(slave, reference.ptn(size))
                 time.sleep(0.1)
                 os.close(slave)
-                self.assertEqual(self.output(process), "read failed\n")
+                self.assertEqual(self.output(process, b"read failed: Input/output error\n"), "read failed\n")
 
 
 if __name__ == "__main__":

@@ -1,5 +1,6 @@
 // Reads standard input in pieces and writes KT128 of it, with an empty customization string: 32 bytes in hex and a line end. The line
-// is `too long` where an absorb answers that, and `read failed` where a read fails before.
+// is `too long` where an absorb answers that, and `read failed` where a read fails before; why it failed is told on standard error.
+// With an argument it reads nothing and writes a usage line, on standard error alone.
 ghost use mathlib.Core.Path.{_≡_};
 ghost use Prim.Native.Nat.{_≤_};
 ghost use lib.ListN.{length, take};
@@ -10,6 +11,7 @@ ghost use Rattle.kangarootwelve.specs.Model.{answer128};
 ghost use Rattle.digest.specs.Digest.{Absorbs, Digests, Written};
 use kangarootwelve::Answer128;
 use kangarootwelve::Kt128;
+use libc::STDERR_FILENO;
 use libc::STDIN_FILENO;
 use libc::STDOUT_FILENO;
 use sponge::status::DONE;
@@ -101,6 +103,14 @@ fn write_digest(hasher: Kt128) -> bool {
     put_digest(hasher, &mut line) && io::write_all(STDOUT_FILENO, &line)
 }
 
+// The reason is that of the last read, if it failed; it is written first, since a write that fails has a reason of its own.
+fn write_read_failed(got: isize) -> bool {
+    if got < 0 {
+        os::fail(b"read failed");
+    }
+    io::write_all(STDOUT_FILENO, b"read failed\n")
+}
+
 // A digest is written only where the last read came to the input's end.
 fn write_line(absorbed: Absorbed) -> bool {
     let answer = absorbed.answer;
@@ -108,16 +118,25 @@ fn write_line(absorbed: Absorbed) -> bool {
         return io::write_all(STDOUT_FILENO, b"too long\n");
     }
     if absorbed.got != 0 {
-        return io::write_all(STDOUT_FILENO, b"read failed\n");
+        return write_read_failed(absorbed.got);
     }
     let hasher = answer.hasher;
     write_digest(hasher)
 }
 
-fn main() {
+fn digest_input() {
     let mut buffer = io::large_buffer();
     let absorbed = absorb_input(&mut buffer);
     if !write_line(absorbed) {
         os::fail(b"write failed");
+    }
+}
+
+// The program's own name is the first argument. Who names a file would else get the digest of something else.
+fn main() {
+    if 1 < os::arg_count() {
+        io::write_all(STDERR_FILENO, b"usage: digest < FILE\n");
+    } else {
+        digest_input();
     }
 }
