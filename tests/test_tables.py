@@ -1,0 +1,84 @@
+"""The tables of docs/ are those that tables.py makes of the tree, and the gate's times are put as they should be."""
+import re
+import tempfile
+import unittest
+from pathlib import Path
+
+import tables
+
+PARTS = "layout 1 0 0\nproofs 17 0 601\nedits 3 1 59\n"
+PROOFS = """rt: keccak proved (12 s)
+rt: must-fail keccak/first_twelve_constants: refused, as it must be (first at proofs/P.antt:1:2; 11 s)
+rt: digest proved (1234 s)
+rt: digest ran as nobody, and wrote what its file 'stdout' has (0 s)
+17 passed, 0 failed
+"""
+EDITS = """rt: keccak proved (unchanged since it was last proved)
+keccak: proved, 3 of 165 modules checked (1.5 s)
+keccak/one_offset: refused first at proofs/P.antt returns, 21 of 165 modules checked (12.5 s)
+keccak/iota_lane: FAILED: NOT REFUSED: the crate is still proved with this edit (2.4 s)
+3 passed, 1 failed
+"""
+TIMES = """
+| part | passed | failed | seconds |
+|---|---|---|---|
+| layout | 1 | 0 | 0 |
+| proofs | 17 | 0 | 601 |
+| edits | 3 | 1 | 59 |
+
+| crate, from nothing | seconds |
+|---|---|
+| keccak | 12 |
+| digest | 1,234 |
+
+| the 10 slowest of 3 edits | seconds | tried |
+|---|---|---|
+| keccak/one_offset | 12 | quick |
+| keccak/first_twelve_constants | 11 | from nothing |
+| keccak/iota_lane | 2 | quick |
+"""
+
+
+class Pages(unittest.TestCase):
+    def test_counts(self):
+        self.held(tables.PROOFS, tables.counts(tables.ROOT))
+
+    def test_edits(self):
+        self.held(tables.EDITS, tables.edits(tables.ROOT))
+
+    def held(self, page, made):
+        self.maxDiff = None
+        self.assertEqual(tables.section(page.read_text(), made.split("\n", 1)[0]), made, "run: python3 tests/tables.py write")
+
+    def test_every_edit_is_listed(self):
+        """Wherever an edit stands below must-fail/, the page names it: one that stands elsewhere is tried by nobody."""
+        edits = sorted(path.stem for path in tables.ROOT.glob("crates/*/must-fail/**/*.edit"))
+        self.assertTrue(edits)
+        self.assertEqual(sorted(re.findall(r"^\| `(\w+)` \|", tables.edits(tables.ROOT), re.MULTILINE)), edits)
+
+
+class Times(unittest.TestCase):
+    def setUp(self):
+        folder = tempfile.TemporaryDirectory()
+        self.addCleanup(folder.cleanup)
+        for name, text in (("parts", PARTS), ("proofs", PROOFS), ("edits", EDITS)):
+            (Path(folder.name) / name).write_text(text)
+        self.times = tables.times(Path(folder.name))
+
+    def test_times(self):
+        head, run, rest = self.times.split("\n", 3)[0], self.times.split("\n", 3)[2], self.times.split("\n", 3)[3]
+        self.assertEqual(head, "## Check times")
+        self.assertRegex(run, r"^One run of the gate on \S.*, \d+ processors \(.*\): 21 passed, 1 failed, 11 min 0 s\.$")
+        self.assertEqual(rest, TIMES)
+
+    def test_replaced(self):
+        """A page gets the section that the gate printed, and keeps what stands before and behind it."""
+        log = f"\n== times\n{self.times}\n== all\n21 passed, 1 failed\n"
+        page = "# A\n\n## Check times\n\nold\n\n## B\n\nb\n"
+        printed = tables.section(log, "## Check times")
+        self.assertEqual(printed, self.times)
+        self.assertEqual(tables.replaced(page, printed), f"# A\n\n{self.times}\n## B\n\nb\n")
+
+
+if __name__ == "__main__":
+    unittest.main()
