@@ -1,16 +1,15 @@
 """A must-fail edit: how it is made in a copy of its crate, and how what the prover then says is held to it.
 
-An edit is a wrong version of a crate, in its code or in a definition. Its line `first error: FILE NAME` says which declaration of
-proofs/ the prover must refuse first. The place is held here, and the words by which the prover says that a proof no longer fits the
-code. That the declaration is a fact which the edit makes false is for a person to read in the prover's log.
+An edit is a wrong version of a crate, in its code (src/) or in a definition (specs/). Its line `first error: FILE NAME` says which
+declaration of proofs/ the prover must refuse first. The place is held here, and the words by which the prover says that a proof no
+longer fits the code. That the declaration is a fact which the edit makes false is for a person to read in the prover's log.
 """
 import re
 
-PARTS = ("src", "specs", "proofs")
 # Words of a first error that tell of no fact: something that a proof names is not there any more, a function has other needs than
 # its proof answers, or the declaration rests on one that was refused.
 NO_FACT = ("that can be named from here", "has no field", "expected type `tie.Need-", "was not admitted")
-ERROR = re.compile(r"(\S+?):\d+:\d+: error: `([^`]+)`: (.*)")
+ERROR = re.compile(r"(\S+?):\d+:\d+: error: `([^`]+)`: .*")
 
 
 class Bad(Exception):
@@ -28,8 +27,8 @@ def apply(edit, folder):
             old = line.removeprefix("old: ")
         elif line.startswith("new:"):
             steps = path.split("/") if path else [""]
-            if steps[0] not in PARTS or ".." in steps or not (folder / path).is_file():
-                raise Bad(f"BAD EDIT: a 'file:' line names no file of the crate: {path}")
+            if steps[0] not in ("src", "specs") or ".." in steps or not (folder / path).is_file():
+                raise Bad(f"BAD EDIT: a 'file:' line names no file of the crate's src/ or specs/: {path}")
             text = (folder / path).read_text()
             if not old or text.count(old) != 1:
                 raise Bad(f"BAD EDIT: an 'old:' text is not in {path} exactly once")
@@ -40,9 +39,19 @@ def apply(edit, folder):
 
 
 def errors_of(said, folder):
-    """The first line of each error, and the verdict on each function, in what the prover said of the crate at `folder`."""
-    lines = said.replace(f"{folder}/", "").splitlines()
-    return [line for line in lines if re.match(r"\S+:\d+:\d+: error\b", line)], sorted(line for line in lines if line.startswith("fn "))
+    """The lines of each error, and the verdict on each function, in what the prover said of the crate at `folder`."""
+    errors, verdicts, open_error = [], [], False
+    for line in said.replace(f"{folder}/", "").splitlines():
+        begins = re.match(r"(\S+: )?error\b", line) is not None
+        # what follows an error's first line is indented
+        open_error = begins or open_error and line.startswith(" ")
+        if begins:
+            errors.append(line)
+        elif open_error:
+            errors[-1] += f"\n{line}"
+        elif line.startswith("fn "):
+            verdicts.append(line)
+    return errors, sorted(verdicts)
 
 
 def hold_first_error(edit, said, folder):
@@ -52,16 +61,18 @@ def hold_first_error(edit, said, folder):
         raise Bad("BAD EDIT: it does not say where it must be refused")
     if not named.group(1).startswith("proofs/"):
         raise Bad("BAD EDIT: a fact is refused in proofs/, and it names another place")
-    errors = errors_of(said, folder)[0]
+    if re.search(r"^file: proofs/", edit.read_text(), re.MULTILINE):
+        raise Bad("BAD EDIT: it changes a proof, and not the code or a definition")
+    errors, _ = errors_of(said, folder)
     if not errors:
         raise Bad("the prover said no error")
-    first = ERROR.fullmatch(errors[0])
+    line = errors[0].split("\n", 1)[0]
+    first = ERROR.fullmatch(line)
     if not first:
-        raise Bad(f"the first error names no declaration: {errors[0]}")
-    where = first.groups()[:2]
-    if where != named.groups():
-        raise Bad(f"refused first at {' '.join(where)}, not at {' '.join(named.groups())}")
+        raise Bad(f"the first error names no declaration: {line}")
+    if first.groups() != named.groups():
+        raise Bad(f"refused first at {' '.join(first.groups())}, not at {' '.join(named.groups())}")
     for words in NO_FACT:
-        if words in first.group(3):
-            raise Bad(f"the proof no longer fits the code: {first.group(3)}")
-    return " ".join(where)
+        if words in errors[0]:
+            raise Bad(f"the proof no longer fits the code ({words}): {line}")
+    return " ".join(first.groups())

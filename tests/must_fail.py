@@ -10,10 +10,11 @@ starts with the modules in target/rlib, which `rt ci` checked from nothing; of a
 then checked over it, which must be proved and fills in what is missing. Each edit gets a copy.
 
 An edit passes where the prover refuses it first at the declaration that it names (edits.py). Its files and the prover's words stay
-in target/quick/NAME/EDIT/. Last, the words that the prover said of the edits which `rt ci` tried are held in the same way.
+in target/quick/NAME/EDIT/. Last, the words that the prover said of the edits which the last `rt ci` tried are held in the same way.
 
 With names, those edits alone, and also of the ones that `rt ci` tries. --whole tries each edit from nothing too: the first error and
-the set of errors must be those of the quick way. Every edit is tried so once, before it lands. --root: another repository.
+the set of errors must be those of the quick way. Every edit is tried so once, before it lands. --jobs: as many at a time; by default
+what rt does, RT_JOBS or the processors, at most four. --root: another repository.
 """
 import argparse
 import os
@@ -25,7 +26,7 @@ import time
 from concurrent.futures import ThreadPoolExecutor
 from pathlib import Path
 
-from edits import PARTS, Bad, apply, errors_of, hold_first_error
+from edits import Bad, apply, errors_of, hold_first_error
 
 
 class Rooms:
@@ -43,18 +44,18 @@ class Rooms:
         others = [path.relative_to(self.root) for path in (self.root / "crates").iterdir() if path.name != crate]
         for path in [Path("crates.txt"), Path("target/rlib"), Path("target/stamp"), *others]:
             (room / path).symlink_to(self.root / path)
-        for part in PARTS:
+        for part in ("src", "specs", "proofs"):
             if (self.root / "crates" / crate / part).is_dir():
                 shutil.copytree(self.root / "crates" / crate / part, room / "crates" / crate / part)
         return room
 
     def check(self, crate, room):
-        """Checks the crate of a room over the incremental folder there: the status, what was said, and how much was checked."""
+        """Checks the crate of a room over the incremental folder there: the status, what was said, the modules taken from the folder
+        and those checked."""
         ended = subprocess.run(["rt", "dev", crate], cwd=room, stdin=subprocess.DEVNULL, stdout=subprocess.PIPE, stderr=subprocess.STDOUT, text=True)
         (room / "log").write_text(ended.stdout)
         found = re.search(rf"^crate {crate}: modules loaded=(\d+) checked=(\d+)$", ended.stdout, re.MULTILINE)
-        loaded, checked = map(int, found.groups()) if found else (0, 0)
-        return ended.returncode, ended.stdout, f"{checked} of {loaded + checked} modules checked"
+        return ended.returncode, ended.stdout, *(map(int, found.groups()) if found else (0, 0))
 
     def fill(self, crate):
         """Checks the unedited crate. The incremental folder of its room then has every module of the crate."""
@@ -64,43 +65,51 @@ class Rooms:
             # where this build of rattle looks; if another looks elsewhere, it checks the crate anew, which takes longer
             build = re.search(r"^rattle-build (\S+)$", (rlib / "format").read_text(), re.MULTILINE).group(1)
             shutil.copytree(rlib / "toolchain/checked", room / "target/inc" / crate / build.replace("/", "_"))
-        status, said, count = self.check(crate, room)
+        status, said, loaded, checked = self.check(crate, room)
         if status != 0 or not re.search(r"^logic=proved ", said, re.MULTILINE):
             raise Bad("the unedited crate is not proved")
-        return f"proved, {count}"
+        return f"proved, {checked} of {loaded + checked} modules checked"
 
     def refused(self, crate, edit, room):
-        """Checks the crate of a room with an edit: where it is refused first, its errors, and how much was checked."""
+        """Checks the crate of a room with an edit: where it is refused first, its errors, the modules taken and those checked."""
         folder = room / "crates" / crate
         apply(edit, folder)
-        status, said, count = self.check(crate, room)
+        status, said, loaded, checked = self.check(crate, room)
         shutil.rmtree(room / "target/inc")
         if status == 0:
             raise Bad("NOT REFUSED: the crate is still proved with this edit")
         if status != 1 or not re.search(r"^logic=not-proved", said, re.MULTILINE):
-            raise Bad(f"BAD EDIT: it did not reach the prover (exit {status})")
-        return hold_first_error(edit, said, folder), errors_of(said, folder), count
+            raise Bad(f"BAD EDIT: it did not reach the prover (exit {status}); what was said begins: {' / '.join(said.splitlines()[:3])}")
+        return hold_first_error(edit, said, folder), errors_of(said, folder), loaded, checked
 
     def attempt(self, crate, edit):
         room = self.make(crate, edit.stem)
         shutil.copytree(self.root / "target/quick" / crate / ".unedited/target/inc", room / "target/inc", dirs_exist_ok=True)
-        where, (errors, verdicts), count = self.refused(crate, edit, room)
-        if self.whole:
-            first, (others, other_verdicts), _ = self.refused(crate, edit, self.make(crate, f"{edit.stem}.whole"))
-            if first != where or set(others) != set(errors) or other_verdicts != verdicts:
-                raise Bad("from nothing the errors are others")
-            count = f"with the same {len(set(errors))} errors from nothing"
-        return f"refused first at {where}, {count}"
+        where, (errors, verdicts), loaded, checked = self.refused(crate, edit, room)
+        said = f"refused first at {where}, {checked} of {loaded + checked} modules checked"
+        if not self.whole:
+            return said
+        first, (others, other_verdicts), taken, modules = self.refused(crate, edit, self.make(crate, f"{edit.stem}.whole"))
+        if taken or modules < loaded + checked:
+            raise Bad(f"from nothing only {modules} modules were checked")
+        if first != where or set(others) != set(errors) or other_verdicts != verdicts:
+            raise Bad("from nothing the errors are others")
+        return f"{said}; from nothing all {modules}, with the same {len(set(errors))} errors"
 
     def hold_tried(self, edits):
-        """Holds the words of the prover on each edit that `rt ci` tried, which are in target/must-fail/NAME/EDIT/.log."""
+        """Holds the words of the prover on each edit that the last `rt ci` tried, which are in target/must-fail/NAME/EDIT/.log."""
+        wrong = []
         for edit in edits:
-            crate = edit.parts[-3]
+            crate = edit.relative_to(self.root).parts[1]
             folder = self.root / "target/must-fail" / crate / edit.stem
             try:
                 hold_first_error(edit, (folder / ".log").read_text(), folder)
-            except (Bad, OSError) as why:
-                raise Bad(f"{crate}/{edit.stem}: {why}")
+            except FileNotFoundError:
+                wrong.append(f"{crate}/{edit.stem}: `rt ci` did not try it")
+            except Bad as why:
+                wrong.append(f"{crate}/{edit.stem}: {why}")
+        if wrong:
+            raise Bad("; ".join(wrong))
         return f"each of {len(edits)} refused first where it says"
 
 
@@ -111,7 +120,8 @@ def timed(name, work, *words):
         done, said = True, work(*words)
     except Exception as why:  # whatever goes wrong fails this edit, and no other
         done, said = False, f"FAILED: {why if isinstance(why, Bad) else repr(why)}"
-    print(f"{name}: {said} ({time.monotonic() - began:.1f} s)", flush=True)
+    # one write, since other threads write too
+    print(f"{name}: {said} ({time.monotonic() - began:.1f} s)\n", end="", flush=True)
     return done
 
 
@@ -144,13 +154,13 @@ def chosen(root, names):
     return edits, others
 
 
-def main():
-    words = argparse.ArgumentParser()
-    words.add_argument("--whole", action="store_true")
-    words.add_argument("--jobs", type=int, default=os.cpu_count())
-    words.add_argument("--root", type=lambda path: Path(path).resolve(), default=Path(__file__).resolve().parent.parent)
-    words.add_argument("names", nargs="*")
-    words = words.parse_args()
+def main(arguments):
+    parser = argparse.ArgumentParser()
+    parser.add_argument("--whole", action="store_true")
+    parser.add_argument("--jobs", type=int, default=int(os.environ.get("RT_JOBS") or min(4, len(os.sched_getaffinity(0)))))
+    parser.add_argument("--root", type=lambda path: Path(path).resolve(), default=Path(__file__).resolve().parent.parent)
+    parser.add_argument("names", nargs="*")
+    words = parser.parse_args(arguments)
 
     try:
         edits, others = chosen(words.root, words.names)
@@ -158,7 +168,9 @@ def main():
         print(f"{why}\n0 passed, 1 failed")
         return 1
     # what the rooms share is proved, and stays as it is
-    if subprocess.run(["rt", "check", *edits], cwd=words.root, stdin=subprocess.DEVNULL).returncode:
+    proved = subprocess.run(["rt", "check", *edits], cwd=words.root, stdin=subprocess.DEVNULL, stdout=subprocess.PIPE, stderr=subprocess.STDOUT, text=True)
+    print(proved.stdout, end="", flush=True)
+    if proved.returncode:
         print("0 passed, 1 failed")
         return 1
 
@@ -171,4 +183,4 @@ def main():
 
 
 if __name__ == "__main__":
-    sys.exit(main())
+    sys.exit(main(sys.argv[1:]))

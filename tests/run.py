@@ -1,5 +1,5 @@
 #!/usr/bin/env python3
-"""Runs every comparison of tests/ and ends with 'N passed, M failed'. Some read what `rt ci` left in target/: run that first.
+"""Runs every comparison of tests/ and ends with 'N passed, M failed'. Some read what `rt check` or `rt ci` left in target/: run one first.
 
 Each file of tests is a process of its own, as many at a time as there are processors; its lines are printed once it has ended.
 """

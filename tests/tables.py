@@ -82,14 +82,18 @@ def commit(root):
     """The commit that is checked out, and whether anything differs from it."""
 
     def git(*words):
-        done = subprocess.run(["git", *words], cwd=root, stdout=subprocess.PIPE, stderr=subprocess.DEVNULL, text=True)
-        return done.stdout.strip() if done.returncode == 0 else ""
+        return subprocess.run(["git", *words], cwd=root, check=True, stdout=subprocess.PIPE, stderr=subprocess.DEVNULL, text=True).stdout.strip()
 
-    return (git("rev-parse", "--short", "HEAD") or "no commit") + (" and what is not committed" if git("status", "--porcelain") else "")
+    try:
+        return git("rev-parse", "--short", "HEAD") + (" and what is not committed" if git("status", "--porcelain") else "")
+    except (OSError, subprocess.CalledProcessError):
+        return "an unknown commit"
 
 
-def seconds(text):
-    return round(float(text))
+def slowest(how, tried):
+    """A table of the slowest of the edits that were tried in one way."""
+    rows = [[name, round(float(took))] for name, took in sorted(tried, key=lambda edit: -float(edit[1]))[:SLOWEST]]
+    return table([f"the slowest of {len(tried)} edits, {how}", "seconds"], rows)
 
 
 def times(folder):
@@ -99,16 +103,17 @@ def times(folder):
     total = sum(int(took) for *_, took in parts)
     passed, failed = (sum(int(part[i]) for part in parts) for i in (1, 2))
     proved = re.findall(r"^rt: (\w+) proved \((\d+) s\)$", proofs, re.MULTILINE)
-    tried = [(name, took, "from nothing") for name, took in re.findall(r"^rt: must-fail (\S+): .*?(\d+) s\)$", proofs, re.MULTILINE)]
-    tried += [(name, took, "quick") for name, took in re.findall(r"^(\w+/\w+): .* \(([0-9.]+) s\)$", edits, re.MULTILINE)]
-    slowest = sorted(tried, key=lambda edit: -float(edit[1]))[:SLOWEST]
+    whole = re.findall(r"^rt: must-fail (\S+): .*?(\d+) s\)$", proofs, re.MULTILINE)
+    quick = re.findall(r"^(\w+/\w+): .* \(([0-9.]+) s\)$", edits, re.MULTILINE)
     return (
         f"## Check times\n\nOne run of the gate on {commit(ROOT)}, {machine()}: {passed} passed, {failed} failed, {total // 60} min {total % 60} s.\n\n"
         + table(["part", "passed", "failed", "seconds"], [[name, *map(int, numbers)] for name, *numbers in parts])
         + "\n"
-        + table(["crate, from nothing", "seconds"], [[name, seconds(took)] for name, took in proved])
+        + table(["crate, from nothing", "seconds"], [[name, int(took)] for name, took in proved])
         + "\n"
-        + table([f"the {SLOWEST} slowest of {len(tried)} edits", "seconds", "tried"], [[name, seconds(took), how] for name, took, how in slowest])
+        + slowest("from nothing", whole)
+        + "\n"
+        + slowest("quick", quick)
     )
 
 

@@ -178,7 +178,7 @@ class Digest(Piped):
     def test_arguments(self):
         """Any argument, an empty one too: a usage line on standard error, nothing on standard output, and nothing is read.
 
-        The first input has bytes, as under cron; the second never ends, as in a terminal.
+        The first input has bytes, to see that none is read; the second never ends, as in a terminal.
         """
         for words in (["day.log"], [""], ["-"], ["--help"], ["day.log", "night.log"], ["x" * 100_000]):
             with self.subTest(words=[word[:10] for word in words]):

@@ -2,12 +2,16 @@
 
 The project's own edits are tried by must_fail.py itself, a part of the gate beside these tests.
 """
+import contextlib
+import io
 import re
+import shutil
 import subprocess
 import sys
 import tempfile
 import unittest
 from pathlib import Path
+from unittest import mock
 
 import must_fail
 from edits import Bad, apply, errors_of, hold_first_error
@@ -79,12 +83,13 @@ EDITS = {
     "must-fail/quick/no_name": (FOUR, "FAILED: BAD EDIT: it does not say where"),
     "must-fail/quick/call_left_out": (
         "first error: proofs/twice/Proof.antt keep-requires\nfile: src/lib.rt\nold: keep(x);\nnew: x;\n",
-        "FAILED: the proof no longer fits the code: `tie.Need-keep-requires`",
+        "FAILED: the proof no longer fits the code (that can be named from here): ",
     ),
     "must-fail/quick/unreadable_definition": (
         "first error: specs/Small.antt doubled\nfile: specs/Small.antt\nold: = 2 *\nnew: = 2 * *\n",
         "FAILED: BAD EDIT: a fact is refused in proofs/",
     ),
+    "must-fail/quick/proof_changed": (PLACE + "file: proofs/twice/Proof.antt\nold: 2 * n\nnew: 4 * n\n", "FAILED: BAD EDIT: a 'file:' line names no file"),
 }
 
 
@@ -130,51 +135,85 @@ class Runner(unittest.TestCase):
             checked, modules = map(int, re.search(r"(\d+) of (\d+) modules checked$", said[name]).groups())
             self.assertLess(checked, modules / 2)
 
-    def test_named(self):
+    def test_whole(self):
+        """Both ways, and the second takes nothing from the folder."""
         status, last, said = self.lines("--whole", "small/four_times", "small/from_nothing")
         self.assertEqual((status, last), (0, "2 passed, 0 failed"))
         for name in ("small/four_times", "small/from_nothing"):
-            self.assertEqual(said[name], "refused first at proofs/twice/Proof.antt returns, with the same 2 errors from nothing")
-        self.assertEqual(self.lines("small/four_times", "small/none")[:2], (1, "0 passed, 1 failed"))
+            self.assertRegex(said[name], r"^refused first at proofs/twice/Proof.antt returns, \d+ of (\d+) modules checked; from nothing all \1, with the same 2 errors$")
+
+    def test_names(self):
+        self.assertEqual(self.lines("small/four_times", "small/none"), (1, "0 passed, 1 failed", {}))
+
+    def added(self, name):
+        """A good edit, at another place of the crate while this test goes on."""
+        edit = self.crate / name
+        edit.parent.mkdir(exist_ok=True)
+        edit.write_text(PLACE + FOUR)
+        self.addCleanup(edit.unlink)
+        return edit
+
+    def test_stray(self):
+        """An edit in a folder that nobody looks into is one that nobody tried."""
+        edit = self.added("must-fail/other/stray.edit")
+        _, others = must_fail.chosen(self.root, [])
+        self.assertIn(edit, others)
+        with self.assertRaisesRegex(Bad, "small/stray: `rt ci` did not try it"):
+            must_fail.Rooms(self.root, False).hold_tried(others)
+
+    def test_two_of_one_name(self):
+        self.added("must-fail/four_times.edit")
+        self.assertEqual(self.lines(), (1, "0 passed, 1 failed", {}))
 
     def test_not_proved(self):
         source = self.crate / "src/lib.rt"
+        self.addCleanup(source.write_text, source.read_text())
         source.write_text(CRATE["src/lib.rt"].replace("2 * (y", "4 * (y"))
-        try:
-            self.assertEqual(self.lines("small/four_times"), (1, "0 passed, 1 failed", {}))
-        finally:
-            source.write_text(CRATE["src/lib.rt"])
+        self.assertEqual(self.lines("small/four_times"), (1, "0 passed, 1 failed", {}))
 
     def test_folder_not_proved(self):
-        """Where the unedited crate is not proved over its folder, none of its edits passes."""
+        """Where the unedited crate is not proved over its folder, its edits are not tried, and count as failed."""
+        check = must_fail.Rooms.check
+        for verdict in ((1, "logic=not-proved\n"), (0, "no verdict\n"), (None, None)):
 
-        class Unproved(must_fail.Rooms):
-            def check(self, crate, room):
-                return 1, "logic=not-proved\n", ""
+            def told(rooms, crate, room):
+                found = check(rooms, crate, room)
+                return (*verdict, *found[2:]) if room.name == ".unedited" and verdict[1] else found
 
-        edits = {"small": sorted(self.crate.glob("must-fail/quick/*.edit"))}
-        self.assertEqual(must_fail.try_edits(Unproved(self.root, False), edits, 1), 0)
+            with self.subTest(verdict=verdict), mock.patch.object(must_fail.Rooms, "check", told), contextlib.redirect_stdout(io.StringIO()) as said:
+                status = must_fail.main(["--root", str(self.root), "small/four_times"])
+            good = verdict[1] is None  # the edit passes where the verdict is the prover's own
+            self.assertEqual((status, said.getvalue().splitlines()[-1]), (0, "1 passed, 0 failed") if good else (1, "0 passed, 1 failed"))
+            self.assertEqual("small/four_times: " in said.getvalue(), good)
 
     def test_other_errors_from_nothing(self):
         class Others(must_fail.Rooms):
             def refused(self, crate, edit, room):
-                where, (errors, verdicts), count = super().refused(crate, edit, room)
-                return where, (errors + ["one more"] * room.name.endswith(".whole"), verdicts), count
+                where, (errors, verdicts), loaded, checked = super().refused(crate, edit, room)
+                return where, (errors + ["one more"] * room.name.endswith(".whole"), verdicts), loaded, checked
 
-        rooms = Others(self.root, True)
-        rooms.fill("small")
-        with self.assertRaisesRegex(Bad, "from nothing the errors are others"):
-            rooms.attempt("small", self.crate / "must-fail/quick/four_times.edit")
+        class Folder(must_fail.Rooms):
+            def make(self, crate, name):
+                room = super().make(crate, name)
+                if name.endswith(".whole"):
+                    shutil.copytree(room.parent / ".unedited/target/inc", room / "target/inc", dirs_exist_ok=True)
+                return room
+
+        for kind, words in ((Others, "from nothing the errors are others"), (Folder, "from nothing only .* modules were checked")):
+            rooms = kind(self.root, True)
+            rooms.fill("small")
+            with self.subTest(words=words), self.assertRaisesRegex(Bad, words):
+                rooms.attempt("small", self.crate / "must-fail/quick/four_times.edit")
 
     def test_those_of_rt_ci(self):
         rooms, edit = must_fail.Rooms(self.root, False), self.crate / "must-fail/from_nothing.edit"
+        self.addCleanup(edit.write_text, edit.read_text())
         self.assertEqual(rooms.hold_tried([edit]), "each of 1 refused first where it says")
-        for text in (FOUR, "first error: proofs/twice/Proof.antt mul-result\n" + FOUR):
+        for text in (FOUR, "first error: proofs/twice/Proof.antt mul-result\n" + FOUR, PLACE + "file: proofs/twice/Proof.antt\nold: 2 * n\nnew: 4 * n\n"):
             with self.subTest(text=text), self.assertRaises(Bad):
                 edit.write_text(text)
                 rooms.hold_tried([edit])
-        edit.write_text(EDITS["must-fail/from_nothing"][0])
-        with self.assertRaises(Bad):
+        with self.assertRaisesRegex(Bad, "small/not_tried: `rt ci` did not try it"):
             rooms.hold_tried([edit.with_stem("not_tried")])
 
 
@@ -216,16 +255,20 @@ class Texts(unittest.TestCase):
                       "expected type `tie.Need-x`, but this has type `tie.Need-y`", "`h` was not admitted (it has holes), so this cannot be checked"):
             with self.subTest(words=words), self.assertRaises(Bad):
                 self.place("first error: proofs/P.antt f", words)
+            with self.subTest(behind=words), self.assertRaises(Bad):
+                self.place("first error: proofs/P.antt f", f"as printed, the two types differ\n  {words}")
 
     def test_no_declaration(self):
         self.edit.write_text("first error: proofs/P.antt f\n")
-        for said in ("logic=not-proved\n", f"{self.crate}/proofs/P.antt:1:2: error: module `M` has no `f`\n"):
+        named = f"{self.crate}/proofs/P.antt:1:2: error: `f`: it is not so\n"
+        self.assertEqual(hold_first_error(self.edit, named, self.crate), "proofs/P.antt f")
+        for said in ("", "error: cannot read M\n", f"{self.crate}/proofs/P.antt: error: cannot read it\n", f"{self.crate}/proofs/P.antt:1:2: error: module `M` has no `f`\n"):
             with self.subTest(said=said), self.assertRaises(Bad):
-                hold_first_error(self.edit, said, self.crate)
+                hold_first_error(self.edit, said + named if said else "logic=not-proved\n", self.crate)
 
     def test_errors(self):
-        said = f"{self.crate}/P.antt:1:2: error: `f`: no\n  more\nnote: {self.crate}/P.antt:1:2: why\nfn g: not proved\nfn f: proved\n"
-        self.assertEqual(errors_of(said, self.crate), (["P.antt:1:2: error: `f`: no"], ["fn f: proved", "fn g: not proved"]))
+        said = f"{self.crate}/P.antt:1:2: error: `f`: no\n  more\nnote: {self.crate}/P.antt:1:2: why\n  so\nfn g: not proved\nfn f: proved\n"
+        self.assertEqual(errors_of(said, self.crate), (["P.antt:1:2: error: `f`: no\n  more"], ["fn f: proved", "fn g: not proved"]))
 
 
 if __name__ == "__main__":
