@@ -54,6 +54,12 @@ def errors_of(said, folder):
     return errors, sorted(verdicts)
 
 
+def parts(error):
+    """An error's place, and what is said there as a set: the prover does not say it in the same order in every run."""
+    place, words = re.fullmatch(r"((?:\S+: )?error(?:: `[^`]+`)?)(.*)", error, re.DOTALL).groups()
+    return place, frozenset(line.strip(" :") for line in words.splitlines())
+
+
 def hold_first_error(edit, said, folder):
     """Holds the first error in what the prover said of the crate at `folder` to the place that the edit names; returns it."""
     named = re.search(r"^first error: (\S+) (\S+)$", edit.read_text(), re.MULTILINE)

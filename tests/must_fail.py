@@ -26,7 +26,7 @@ import time
 from concurrent.futures import ThreadPoolExecutor
 from pathlib import Path
 
-from edits import Bad, apply, errors_of, hold_first_error
+from edits import Bad, apply, errors_of, hold_first_error, parts
 
 
 class Rooms:
@@ -92,9 +92,9 @@ class Rooms:
         first, (others, other_verdicts), taken, modules = self.refused(crate, edit, self.make(crate, f"{edit.stem}.whole"))
         if taken or modules < loaded + checked:
             raise Bad(f"from nothing only {modules} modules were checked")
-        if first != where or set(others) != set(errors) or other_verdicts != verdicts:
+        if first != where or set(map(parts, others)) != set(map(parts, errors)) or other_verdicts != verdicts:
             raise Bad("from nothing the errors are others")
-        return f"{said}; from nothing all {modules}, with the same {len(set(errors))} errors"
+        return f"{said}; from nothing all {modules}, with the same {len(errors)} errors"
 
     def hold_tried(self, edits):
         """Holds the words of the prover on each edit that the last `rt ci` tried, which are in target/must-fail/NAME/EDIT/.log."""

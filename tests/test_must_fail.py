@@ -14,7 +14,7 @@ from pathlib import Path
 from unittest import mock
 
 import must_fail
-from edits import Bad, apply, errors_of, hold_first_error
+from edits import Bad, apply, errors_of, hold_first_error, parts
 
 RUNNER = Path(must_fail.__file__).resolve()
 CRATE = {
@@ -190,7 +190,7 @@ class Runner(unittest.TestCase):
         class Others(must_fail.Rooms):
             def refused(self, crate, edit, room):
                 where, (errors, verdicts), loaded, checked = super().refused(crate, edit, room)
-                return where, (errors + ["one more"] * room.name.endswith(".whole"), verdicts), loaded, checked
+                return where, (errors + ["error: one more"] * room.name.endswith(".whole"), verdicts), loaded, checked
 
         class Folder(must_fail.Rooms):
             def make(self, crate, name):
@@ -269,6 +269,13 @@ class Texts(unittest.TestCase):
     def test_errors(self):
         said = f"{self.crate}/P.antt:1:2: error: `f`: no\n  more\nnote: {self.crate}/P.antt:1:2: why\n  so\nfn g: not proved\nfn f: proved\n"
         self.assertEqual(errors_of(said, self.crate), (["P.antt:1:2: error: `f`: no\n  more"], ["fn f: proved", "fn g: not proved"]))
+
+    def test_parts(self):
+        """Two errors are one where place, declaration and what is said are the same, in whatever order."""
+        error = "P.antt:1:2: error: `f`: the two differ\n  expected `a: b`"
+        self.assertEqual(parts(error), parts("P.antt:1:2: error: `f`: expected `a: b`\n  the two differ"))
+        for other in (error.replace("1:2", "1:3"), error.replace("`f`", "`g`"), error.replace("differ", "are one"), error.split("\n")[0], "error: no", "P.antt: error[x]: no"):
+            self.assertNotEqual(parts(error), parts(other))
 
 
 if __name__ == "__main__":

@@ -61,6 +61,8 @@ class Pages(unittest.TestCase):
             listed += [(part.split("`", 1)[0], f"{name}.edit") for name in re.findall(r"^\| `(\w+)` \|", part, re.MULTILINE)]
         self.assertTrue(files)
         self.assertEqual(sorted(listed), sorted((path.parts[1], path.name) for path in files))
+        libraries = {path.parts[-3] for path in tables.ROOT.glob("crates/*/src/lib.rt")}
+        self.assertEqual(libraries - {crate for crate, _ in listed}, set(), "a library without an edit")
 
 
 class Times(unittest.TestCase):
