@@ -105,6 +105,9 @@ def times(folder):
     proved = re.findall(r"^rt: (\w+) proved \((\d+) s\)$", proofs, re.MULTILINE)
     whole = re.findall(r"^rt: must-fail (\S+): .*?(\d+) s\)$", proofs, re.MULTILINE)
     quick = re.findall(r"^(\w+/\w+): .* \(([0-9.]+) s\)$", edits, re.MULTILINE)
+    told, due = [len(proved), len(whole), len(quick)], [len(crates(ROOT)), *(len(list(ROOT.glob(f"crates/*/{pattern}"))) for pattern in TRIED.values())]
+    if not failed and told != due:
+        raise SystemExit(f"the parts tell the times of {told} crates, edits from nothing and quick edits, and there are {due}")
     return (
         f"## Check times\n\nOne run of the gate on {commit(ROOT)}, {machine()}: {passed} passed, {failed} failed, {total // 60} min {total % 60} s.\n\n"
         + table(["part", "passed", "failed", "seconds"], [[name, *map(int, numbers)] for name, *numbers in parts])

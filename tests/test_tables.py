@@ -69,15 +69,34 @@ class Times(unittest.TestCase):
     def setUp(self):
         folder = tempfile.TemporaryDirectory()
         self.addCleanup(folder.cleanup)
+        self.folder = Path(folder.name)
         for name, text in (("parts", PARTS), ("proofs", PROOFS), ("edits", EDITS)):
-            (Path(folder.name) / name).write_text(text)
-        self.times = tables.times(Path(folder.name))
+            (self.folder / name).write_text(text)
+        self.times = tables.times(self.folder)
 
     def test_times(self):
         head, _, run, rest = self.times.split("\n", 3)
         self.assertEqual(head, "## Check times")
         self.assertRegex(run, r"^One run of the gate on \S.*, \d+ processors \(.*\): 21 passed, 1 failed, 11 min 0 s\.$")
         self.assertEqual(rest, TIMES)
+
+    def test_all_are_told(self):
+        """Where nothing failed, each crate and each edit of the tree has its line; a lost one fails."""
+        (self.folder / "parts").write_text(PARTS.replace("3 1 59", "4 0 59"))
+        names = [(path.parts[-4 if how == "quick" else -3], path.stem, how) for how, pattern in tables.TRIED.items() for path in tables.ROOT.glob(f"crates/*/{pattern}")]
+        proofs = [f"rt: {name} proved (1 s)" for name in tables.crates(tables.ROOT)]
+        proofs += [f"rt: must-fail {crate}/{name}: refused, as it must be (first at P:1:2; 1 s)" for crate, name, how in names if how != "quick"]
+        edits = [f"{crate}/{name}: refused first at P f, 1 of 2 modules checked (1.0 s)" for crate, name, how in names if how == "quick"]
+
+        def told(proofs, edits):
+            (self.folder / "proofs").write_text("\n".join(proofs) + "\n")
+            (self.folder / "edits").write_text("\n".join(edits) + "\n")
+            return tables.times(self.folder)
+
+        self.assertIn(f"| the slowest of {len(edits)} edits, quick | seconds |\n", told(proofs, edits))
+        for fewer in ((proofs[1:], edits), (proofs[:-1], edits), (proofs, edits[1:])):
+            with self.assertRaises(SystemExit):
+                told(*fewer)
 
     def test_replaced(self):
         """A page gets the section that the gate printed, and keeps what stands before and behind it."""
