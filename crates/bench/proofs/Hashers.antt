@@ -1,55 +1,73 @@
--- The two hashers of the benchmarks, TurboSHAKE128 with D = 1F and KT128 with C empty, and their laws of calls in a row.
+-- The hashers of the benchmarks and their laws of calls in a row: one for every function of `hasher`, of which TurboSHAKE128 with D = 1F is an
+-- instance, and KT128 with C empty.
 -- Assumes nothing.
-use mathlib.Core.Path.{_≡_, ap}
+use mathlib.Core.Path.{_≡_, ap, _∙_}
 use mathlib.Core.List.{List, []}
 use Prim.Native.Nat.{ℕ, _<_}
 use native.Mathlib.Omega.{arith}
-use Rattle.turboshake.specs.Transcript as turboshake-transcript
-use Rattle.turboshake.specs.Model as turboshake
-use Rattle.turboshake.specs.declared.Run as turboshake-run
-use Rattle.turboshake.specs.declared.TurboShake128.{TurboShake128}
-use Rattle.turboshake.specs.declared.Answer128 as turboshake-answer
-use Rattle.turboshake.proofs.Pieces as turboshake-pieces
+use lib.ListN.{length}
+use Rattle.hasher.specs.Function.{Function, output}
+use Rattle.hasher.specs.Claims.{Meets}
+use Rattle.hasher.specs.Model.{freshOf, answer, written}
+use Rattle.hasher.specs.declared.Run.{Run}
+use Rattle.hasher.specs.declared.Answer.{Answer}
+use Rattle.hasher.proofs.Pieces as pieces
+use Rattle.turboshake.specs.Published.{turboshake128}
+use Rattle.turboshake.specs.Transcript as turboshake
+use Rattle.turboshake.proofs.Claims as turboshake-claims
 use Rattle.kangarootwelve.specs.Transcript as kt-transcript
 use Rattle.kangarootwelve.specs.Model as kt
 use Rattle.kangarootwelve.specs.declared.Run as kt-run
 use Rattle.kangarootwelve.specs.declared.Kt128.{Kt128}
 use Rattle.kangarootwelve.specs.declared.Answer128 as kt-answer
 use Rattle.kangarootwelve.proofs.Pieces as kt-pieces
-use Rattle.bench.specs.Pieces.{turboshakeWith1F, ktWithNone}
+use Rattle.bench.specs.Pieces.{ktWithNone}
 use Rattle.bench.proofs.Pieces.{Hasher}
+
+-- ---- the functions of `hasher`
+
+-- F, closed with a, whose output is published as f
+module _ {A : Type 0} (F : Function A) (E : Meets F) (a : A) (taken : F .argument a ≡ 0) (f : List ℕ → ℕ → List ℕ) (published : (m : List ℕ) (n : ℕ) → output F m a n ≡ f m n) where
+  abbrev pub hasherOf : Hasher A Run Answer
+  hasherOf = record {
+    answer = answer F;
+    status = λ x. x .status;
+    left = λ x. x .run;
+    output = written F;
+    argument = a;
+    timed = record { output = f; limit = F .outputLimit };
+    fresh = freshOf;
+    after = pieces.absorbedRun F;
+    closed = λ m. pieces.finalizedRun F m a;
+    fresh-run = pieces.fresh-absorbed F;
+    absorb-piece = λ m p l.
+        let e = pieces.absorb-piece F E m p l in
+        (ap (λ (x : Answer). x .status) e, ap (λ (x : Answer). x .run) e);
+    absorb-long = λ m p h l. ap (λ (x : Answer). x .status) (pieces.absorb-long F E m p h l);
+    finalize-run = λ m h. ap (λ (x : Answer). x .run) (pieces.finalize-run F E m a h taken);
+    squeeze-run = λ m out h l.
+        let e = pieces.squeeze-run F E m a out h taken l in
+        (e .0, e .1 ∙ published m (length out));
+    squeeze-long = λ m out h l. pieces.squeeze-long F E m a out h taken l;
+  }
+
+abbrev pub turboHasher : Hasher ℕ Run Answer
+turboHasher =
+    hasherOf
+    (turboshake.function 168)
+    (turboshake-claims.meets 168 (omega arith) (omega arith))
+    0x1F
+    (turboshake-claims.domain-taken 0x1F (omega arith) (omega arith))
+    (λ m n. turboshake128 m 0x1F n)
+    (λ m n. turboshake-claims.claims128 .published m 0x1F n)
+
+-- ---- KT128
 
 pub positive : 0 < 168
 positive = omega arith
 
-pub domain-1f : turboshake-transcript.domainStatus 0x1F ≡ 0
-domain-1f = turboshake-pieces.domain-taken 0x1F (omega arith) (omega arith)
-
 pub no-customization : kt-transcript.customizationStatus 0 ≡ 0
 no-customization = kt-pieces.customization-taken 0 (omega arith)
-
-abbrev pub turboHasher : Hasher ℕ TurboShake128 turboshake-answer.Answer128
-turboHasher = record {
-  answer = turboshake.answer128;
-  status = λ x. x .status;
-  left = λ x. x .hasher;
-  output = λ h out. turboshake.outputOf 168 (h .run) out;
-  argument = 0x1F;
-  published = turboshakeWith1F;
-  fresh = record { run = turboshake.freshOf 168 };
-  after = λ m. record { run = turboshake-pieces.absorbedRun 168 positive m };
-  closed = λ m. record { run = turboshake-pieces.finalizedRun 168 positive m 0x1F };
-  fresh-run = ap (λ (r : turboshake-run.Run). record { run = r }) (turboshake-pieces.fresh-absorbed 168 positive);
-  absorb-piece = λ m p l.
-      let e = turboshake-pieces.absorb-piece 168 positive m p l in
-      (ap (λ (x : turboshake.Answer). x .status) e, ap (λ (x : turboshake.Answer). record { run = x .run }) e);
-  absorb-long = λ m p h l. ap (λ (x : turboshake.Answer). x .status) (turboshake-pieces.absorb-long 168 positive m p h l);
-  finalize-run = λ m h.
-      ap (λ (x : turboshake.Answer). record { run = x .run })
-      (turboshake-pieces.finalize-run 168 positive m 0x1F h domain-1f);
-  squeeze-run = λ m out h l. turboshake-pieces.squeeze-run 168 positive m 0x1F out h domain-1f l;
-  squeeze-long = λ m out h l. turboshake-pieces.squeeze-long 168 positive m 0x1F out h domain-1f l;
-}
 
 abbrev pub ktHasher : Hasher (List ℕ) Kt128 kt-answer.Answer128
 ktHasher = record {
@@ -58,7 +76,7 @@ ktHasher = record {
   left = λ x. x .hasher;
   output = λ h out. kt.outputOf 168 32 (h .run) out;
   argument = [];
-  published = ktWithNone;
+  timed = ktWithNone;
   fresh = record { run = kt.freshOf 168 32 };
   after = λ m. record { run = kt-pieces.absorbedRun 168 32 positive m };
   closed = λ m. record { run = kt-pieces.finalizedRun 168 32 positive m [] };

@@ -9,8 +9,8 @@ use borrow.Author.Tests.{eq-eqb, ne-eqb, le-leb, lt-leb}
 use lib.ListN.{length, take, drop}
 use lib.Seq.{length-take-le, take-add, take-all}
 use Rattle.sponge.specs.Transcript.{Call, Call.absorb, Call.finalize, Call.squeeze}
-use Rattle.turboshake.specs.Transcript.{messageLimit, outputLimit}
-use Rattle.bench.specs.Pieces.{piecesStatus, piecesOutput}
+use Rattle.hasher.specs.Function.{messageLimit}
+use Rattle.bench.specs.Pieces.{Timed, piecesStatus, piecesOutput}
 
 -- a hasher H whose calls answer an X
 pub record Hasher (A H X : Type 0) : Type 0 where
@@ -19,9 +19,9 @@ pub record Hasher (A H X : Type 0) : Type 0 where
   pub left : X → H
   -- what a lent output holds after a squeeze
   pub output : H → List ℕ → List ℕ
-  -- the finalize's argument, and the published function with it
+  -- the finalize's argument, and the function that is timed with it
   pub argument : A
-  pub published : List ℕ → ℕ → List ℕ
+  pub timed : Timed
   -- the hasher at the start, after a message, and after its finalize
   pub fresh : H
   pub after : List ℕ → H
@@ -30,34 +30,34 @@ pub record Hasher (A H X : Type 0) : Type 0 where
   pub absorb-piece : (m p : List ℕ) → length (m ++ p) ≤ messageLimit → (status (answer (after m) (absorb p)) ≡ 0) × (left (answer (after m) (absorb p)) ≡ after (m ++ p))
   pub absorb-long : (m p : List ℕ) → length m ≤ messageLimit → messageLimit < length (m ++ p) → status (answer (after m) (absorb p)) ≡ 2
   pub finalize-run : (m : List ℕ) → length m ≤ messageLimit → left (answer (after m) (finalize argument)) ≡ closed m
-  pub squeeze-run : (m out : List ℕ) → length m ≤ messageLimit → length out ≤ outputLimit
-      → (status (answer (closed m) (squeeze (length out))) ≡ 0) × (output (closed m) out ≡ published m (length out))
-  pub squeeze-long : (m out : List ℕ) → length m ≤ messageLimit → outputLimit < length out
+  pub squeeze-run : (m out : List ℕ) → length m ≤ messageLimit → length out ≤ timed .limit
+      → (status (answer (closed m) (squeeze (length out))) ≡ 0) × (output (closed m) out ≡ timed .output m (length out))
+  pub squeeze-long : (m out : List ℕ) → length m ≤ messageLimit → timed .limit < length out
       → (status (answer (closed m) (squeeze (length out))) ≡ 6) × (output (closed m) out ≡ out)
 
 -- ---- the status and the output by cases
 
 -- the status s, and an output that holds o, are those of the contract
-abbrev pub Right : (List ℕ → ℕ → List ℕ) → ℕ → List ℕ → List ℕ → ℕ → List ℕ → Type 0
-Right published step m out s o = (s ≡ piecesStatus step (length m) (length out)) × (o ≡ piecesOutput published step m out)
+abbrev pub Right : Timed → ℕ → List ℕ → List ℕ → ℕ → List ℕ → Type 0
+Right f step m out s o = (s ≡ piecesStatus f step (length m) (length out)) × (o ≡ piecesOutput f step m out)
 
-module _ (published : List ℕ → ℕ → List ℕ) (step : ℕ) (m out : List ℕ) where
-  pub pieces-9 : step ≡ 0 → Right published step m out 9 out
+module _ (f : Timed) (step : ℕ) (m out : List ℕ) where
+  pub pieces-9 : step ≡ 0 → Right f step m out 9 out
   unfolding piecesStatus piecesOutput
   pieces-9 e = (rw (eq-eqb step 0 e), rw (eq-eqb step 0 e))
 
   module _ (s : step ≡ 0 → ⊥) where
-    pieces-2 : messageLimit < length m → Right published step m out 2 out
+    pieces-2 : messageLimit < length m → Right f step m out 2 out
     unfolding piecesStatus piecesOutput
     pieces-2 h = (rw (ne-eqb step 0 s, lt-leb (length m) messageLimit h), rw (ne-eqb step 0 s, lt-leb (length m) messageLimit h))
 
-    pieces-6 : length m ≤ messageLimit → outputLimit < length out → Right published step m out 6 out
+    pieces-6 : length m ≤ messageLimit → f .limit < length out → Right f step m out 6 out
     unfolding piecesStatus piecesOutput
-    pieces-6 h g = (rw (ne-eqb step 0 s, le-leb (length m) messageLimit h, lt-leb (length out) outputLimit g), rw (ne-eqb step 0 s, le-leb (length m) messageLimit h, lt-leb (length out) outputLimit g))
+    pieces-6 h g = (rw (ne-eqb step 0 s, le-leb (length m) messageLimit h, lt-leb (length out) (f .limit) g), rw (ne-eqb step 0 s, le-leb (length m) messageLimit h, lt-leb (length out) (f .limit) g))
 
-    pieces-0 : length m ≤ messageLimit → length out ≤ outputLimit → Right published step m out 0 (published m (length out))
+    pieces-0 : length m ≤ messageLimit → length out ≤ f .limit → Right f step m out 0 (f .output m (length out))
     unfolding piecesStatus piecesOutput
-    pieces-0 h g = (rw (ne-eqb step 0 s, le-leb (length m) messageLimit h, le-leb (length out) outputLimit g), rw (ne-eqb step 0 s, le-leb (length m) messageLimit h, le-leb (length out) outputLimit g))
+    pieces-0 h g = (rw (ne-eqb step 0 s, le-leb (length m) messageLimit h, le-leb (length out) (f .limit) g), rw (ne-eqb step 0 s, le-leb (length m) messageLimit h, le-leb (length out) (f .limit) g))
 
 -- ---- the loop
 
@@ -101,13 +101,13 @@ module _ {A H X : Type 0} (R : Hasher A H X) (m : List ℕ) where
         by (no g) = absurd (let t = piece-long (omega arith) in omega arith)
 
     -- and a refused one passes the message limit, and so does the message
-    pub refused : (step : ℕ) → (step ≡ 0 → ⊥) → (out : List ℕ) → (R .status a ≡ 0 → ⊥) → Right (R .published) step m out (R .status a) out
+    pub refused : (step : ℕ) → (step ≡ 0 → ⊥) → (out : List ℕ) → (R .status a ≡ 0 → ⊥) → Right (R .timed) step m out (R .status a) out
     refused step s out z = by (decLe (i + k) messageLimit)
       where
-        by : Dec (i + k ≤ messageLimit) → Right (R .published) step m out (R .status a) out
+        by : Dec (i + k ≤ messageLimit) → Right (R .timed) step m out (R .status a) out
         by (yes g) = absurd (z (piece-done g .0))
         by (no g) =
-            let p = pieces-2 (R .published) step m out s (omega arith) in
+            let p = pieces-2 (R .timed) step m out s (omega arith) in
             (piece-long (omega arith) ∙ p .0, p .1)
 
   -- all of m was absorbed; a is what its finalize answers, b what the squeeze then answers, and o what the output then holds
@@ -127,16 +127,16 @@ module _ {A H X : Type 0} (R : Hasher A H X) (m : List ℕ) where
     output-is : o ≡ R .output (R .closed m) out
     output-is = u ∙ ap (λ (x : H). R .output x out) closes
 
-    pub row : (step : ℕ) → (step ≡ 0 → ⊥) → Right (R .published) step m out (R .status b) o
-    row step s = by (decLe (length out) outputLimit)
+    pub row : (step : ℕ) → (step ≡ 0 → ⊥) → Right (R .timed) step m out (R .status b) o
+    row step s = by (decLe (length out) (R .timed .limit))
       where
-        by : Dec (length out ≤ outputLimit) → Right (R .published) step m out (R .status b) o
+        by : Dec (length out ≤ R .timed .limit) → Right (R .timed) step m out (R .status b) o
         by (yes g) =
             let q = R .squeeze-run m out short g in
-            let p = pieces-0 (R .published) step m out s short g in
+            let p = pieces-0 (R .timed) step m out s short g in
             (status-is ∙ q .0 ∙ p .0, output-is ∙ q .1 ∙ p .1)
         by (no g) =
-            let f : outputLimit < length out = omega arith in
+            let f : R .timed .limit < length out = omega arith in
             let q = R .squeeze-long m out short f in
-            let p = pieces-6 (R .published) step m out s short f in
+            let p = pieces-6 (R .timed) step m out s short f in
             (status-is ∙ q .0 ∙ p .0, output-is ∙ q .1 ∙ p .1)

@@ -7,25 +7,32 @@ use lib.ListN.{length}
 use lib.Dec.{eqb, leb}
 use Rattle.sponge.specs.Status.{done, inputTooLong, outputTooLong}
 use Rattle.sponge.specs.Transcript.{lent}
+use Rattle.hasher.specs.Function.{messageLimit, longOutput}
 use Rattle.turboshake.specs.Published.{turboshake128}
-use Rattle.turboshake.specs.Transcript.{messageLimit, outputLimit}
 use Rattle.kangarootwelve.specs.Published.{kt128}
 
--- the published functions, of the message and the number of bytes asked: TurboSHAKE128 with D = 1F, and KT128 with C empty
-abbrev pub turboshakeWith1F : List ℕ → ℕ → List ℕ
-turboshakeWith1F m n = turboshake128 m 0x1F n
+-- a function that is timed: its published output, of the message and the number of bytes asked, and the most bytes that are read
+pub record Timed : Type 0 where
+  pub output : List ℕ → ℕ → List ℕ
+  pub limit : ℕ
 
-abbrev pub ktWithNone : List ℕ → ℕ → List ℕ
-ktWithNone m n = kt128 m [] n
+-- TurboSHAKE128 with D = 1F
+abbrev pub turboshakeWith1F : Timed
+turboshakeWith1F = record { output = λ m n. turboshake128 m 0x1F n; limit = longOutput }
+
+-- KT128 with C empty
+abbrev pub ktWithNone : Timed
+ktWithNone = record { output = λ m n. kt128 m [] n; limit = longOutput }
 
 -- pieces of no bytes: a number of the benchmark's own
 abbrev pub badStep : ℕ
 badStep = 9
 
--- the status for m bytes in pieces of `step`, and n bytes asked
-unfoldable pub piecesStatus : ℕ → ℕ → ℕ → ℕ
-piecesStatus step m n = cond (eqb step 0) badStep (cond (leb m messageLimit) (cond (leb n outputLimit) done outputTooLong) inputTooLong)
+module _ (f : Timed) where
+  -- the status for m bytes in pieces of `step`, and n bytes asked
+  unfoldable pub piecesStatus : ℕ → ℕ → ℕ → ℕ
+  piecesStatus step m n = cond (eqb step 0) badStep (cond (leb m messageLimit) (cond (leb n (f .limit)) done outputTooLong) inputTooLong)
 
--- what the lent output holds after it
-unfoldable pub piecesOutput : (List ℕ → ℕ → List ℕ) → ℕ → List ℕ → List ℕ → List ℕ
-piecesOutput published step m out = lent (piecesStatus step (length m) (length out)) (published m (length out)) out
+  -- what the lent output holds after it
+  unfoldable pub piecesOutput : ℕ → List ℕ → List ℕ → List ℕ
+  piecesOutput step m out = lent (piecesStatus step (length m) (length out)) (f .output m (length out)) out

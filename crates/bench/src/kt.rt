@@ -12,7 +12,7 @@ use sponge::status;
 // KT128 of a message, with C empty, absorbed in pieces of `step` bytes and squeezed at once.
 #[no_mangle]
 pub extern "C" fn bench_kt_pieces(message: &[u8], step: usize, out: &mut [u8]) -> u8
-    ensures { λ r. ⌜ r ≡ piecesStatus step (length (now (message .entry))) (length (now (out .entry))) ⌝ }
+    ensures { λ r. ⌜ r ≡ piecesStatus ktWithNone step (length (now (message .entry))) (length (now (out .entry))) ⌝ }
     ensures { λ r. ⌜ now (out .exit) ≡ piecesOutput ktWithNone step (now (message .entry)) (now (out .entry)) ⌝ }
 {
     if step == 0 {

@@ -4,7 +4,8 @@ mod kt;
 ghost use mathlib.Core.Path.{_≡_};
 ghost use Prim.Native.Nat.{min};
 ghost use lib.ListN.{length};
-ghost use Rattle.turboshake.specs.Model.{hashStatus, hashOutput};
+ghost use Rattle.hasher.specs.Model.{oneGoStatus, oneGoOutput};
+ghost use Rattle.turboshake.specs.Transcript.{function};
 ghost use Rattle.bench.specs.Pieces.{turboshakeWith1F, piecesStatus, piecesOutput};
 ghost use Rattle.bench.specs.Repeat.{repeated};
 use turboshake::TurboShake128;
@@ -21,7 +22,7 @@ pub extern "C" fn bench_permute(lanes: &mut [u64; 25], count: usize)
 {
     let mut i: usize = 0;
     while i < count {
-        keccak::permute_in_place(lanes);
+        keccak::permute_in_place(lanes, turboshake::ROUNDS);
         i += 1;
     }
 }
@@ -35,7 +36,7 @@ fn least(x: usize, y: usize) -> usize
 // TurboSHAKE128 of a message, with D = 1F, absorbed in pieces of `step` bytes and squeezed at once.
 #[no_mangle]
 pub extern "C" fn bench_pieces(message: &[u8], step: usize, out: &mut [u8]) -> u8
-    ensures { λ r. ⌜ r ≡ piecesStatus step (length (now (message .entry))) (length (now (out .entry))) ⌝ }
+    ensures { λ r. ⌜ r ≡ piecesStatus turboshakeWith1F step (length (now (message .entry))) (length (now (out .entry))) ⌝ }
     ensures { λ r. ⌜ now (out .exit) ≡ piecesOutput turboshakeWith1F step (now (message .entry)) (now (out .entry)) ⌝ }
 {
     if step == 0 {
@@ -62,8 +63,8 @@ pub extern "C" fn bench_pieces(message: &[u8], step: usize, out: &mut [u8]) -> u
 // The same in one go.
 #[no_mangle]
 pub extern "C" fn bench_one_go(message: &[u8], out: &mut [u8]) -> u8
-    ensures { λ r. ⌜ r ≡ hashStatus (length (now (message .entry))) 0x1F (length (now (out .entry))) ⌝ }
-    ensures { λ r. ⌜ now (out .exit) ≡ hashOutput 168 (now (message .entry)) 0x1F (now (out .entry)) ⌝ }
+    ensures { λ r. ⌜ r ≡ oneGoStatus (function 168) (length (now (message .entry))) 0x1F (length (now (out .entry))) ⌝ }
+    ensures { λ r. ⌜ now (out .exit) ≡ oneGoOutput (function 168) (now (message .entry)) 0x1F (now (out .entry)) ⌝ }
 {
     TurboShake128::hash(message, DOMAIN, out)
 }

@@ -7,11 +7,11 @@ mod kt;
 ghost use mathlib.Core.Path.{_≡_};
 ghost use Prim.Native.Nat.{_≤_, min};
 ghost use lib.ListN.{length};
-use functions::Answer;
 use functions::Function;
+use hasher::Answer;
+use hasher::Run;
 use libc::STDOUT_FILENO;
 use sponge::status::DONE;
-use turboshake::Run;
 use turboshake::TurboShake128;
 use turboshake::TurboShake256;
 
@@ -45,7 +45,7 @@ fn fill(buffer: &mut [u8]) {
 
 // Absorbs the message in pieces, and stops at a call that is refused.
 fn absorb_message(function: Function, message: &[u8]) -> Answer {
-    let run = functions::fresh(function);
+    let run = hasher::fresh();
     let mut answer = Answer { status: DONE, run };
     let mut i: usize = 0;
     while i < message.len() && answer.status == DONE {
@@ -88,10 +88,10 @@ fn cut(function: Function, message: &[u8], domain: u8, out: &mut [u8]) -> u8 {
 }
 
 fn write_name(function: Function) -> bool {
-    match function {
-        Function::TurboShake128 => io::write_all(STDOUT_FILENO, b"TurboSHAKE128 "),
-        Function::TurboShake256 => io::write_all(STDOUT_FILENO, b"TurboSHAKE256 "),
+    if function.rate == TurboShake128::RATE {
+        return io::write_all(STDOUT_FILENO, b"TurboSHAKE128 ");
     }
+    io::write_all(STDOUT_FILENO, b"TurboSHAKE256 ")
 }
 
 fn write_way(is_cut: bool) -> bool {
@@ -161,10 +161,10 @@ fn write_both(function: Function, message: &[u8], domain: u8, asked: usize) -> b
 fn rate_of(function: Function) -> usize
     ensures { λ r. ⌜ (2 ≤ r) × (r ≤ 168) ⌝ }
 {
-    match function {
-        Function::TurboShake128 => TurboShake128::RATE,
-        Function::TurboShake256 => TurboShake256::RATE,
+    if function.rate == TurboShake128::RATE {
+        return TurboShake128::RATE;
     }
+    TurboShake256::RATE
 }
 
 // The i-th message length, and below the i-th output length.
@@ -255,8 +255,8 @@ fn write_edges(function: Function, buffer: &[u8]) -> bool
 fn main() {
     let mut buffer = [0u8; 337];
     fill(&mut buffer);
-    if write_edges(Function::TurboShake128, &buffer)
-        && write_edges(Function::TurboShake256, &buffer)
+    if write_edges(functions::turboshake128(), &buffer)
+        && write_edges(functions::turboshake256(), &buffer)
     {
         kt::write_edges();
     }

@@ -61,7 +61,7 @@ pub append-taken : (es : List (List ℕ)) (e : List ℕ) → length (message es)
 unfolding dayAfter replyOf rulesAt
 append-taken es e l z =
     let q : Done (book es absorbing) (absorb e) = done (book es absorbing) (absorb e) (open-fits es l) z in (
-      rw (message-next es e, length-append (message es) (framed e), ← limits-are 168 32 .0) (leb-true _ _ (cond-zero _ _ (first-zero (ownStatus (absorb e)) _ (q .status)))),
+      rw (message-next es e, length-append (message es) (framed e), ← limits-are 168 32 .0) (leb-true _ _ (cond-zero _ _ (first-zero (ownStatus (absorb e)) _ (q .status) .1))),
       ap (λ (y : Reply Journal). y .left) (q .reply) ∙ ap (λ (m : List ℕ). dayTold (record { absorbed = m; phase = absorbing; squeezed = 0 })) (sym (message-next es e)),
     )
 

@@ -15,6 +15,7 @@ use Rattle.sponge.specs.Runs.{runOf}
 use Rattle.sponge.proofs.Reachable as generic
 use Rattle.sponge.proofs.Reachable.{Told}
 use Rattle.kangarootwelve.specs.Transcript as kt
+use Rattle.kangarootwelve.specs.Transcript.{Callable}
 use Rattle.kangarootwelve.specs.Model.{Nodes, machine, seen}
 use Rattle.kangarootwelve.proofs.Answers.{customized-is}
 use Rattle.kangarootwelve.proofs.Encoding.{encode-zero}
@@ -52,8 +53,8 @@ empties-length (suc n) = rw encode-zero (ap suc (empties-length n))
 
 reached-at : (r : runs.Run Nodes) → machine 168 32 .reachable r ≡ true → Reached (dayOf r)
 reached-at r e =
-    let g : Told (kt.rules 168 32) (machine 168 32) laws positions (due 168 32) (shape 168 32) (shaped 168 32) r =
-    generic.reachable-told (kt.rules 168 32) (machine 168 32) laws positions (due 168 32) (shape 168 32) (shaped 168 32) (kt-streaming.statuses 168 32) r e in
+    let g : Told (kt.rules 168 32) (machine 168 32) laws positions (due 168 32) (shape 168 32) (shaped 168 32) Callable r =
+    generic.reachable-told (kt.rules 168 32) (machine 168 32) laws positions (due 168 32) (shape 168 32) (shaped 168 32) Callable (kt-streaming.statuses 168 32) r e in
     let es : List (List ℕ) = replicate (r .absorbed) [] in
     let l : length (message es) ≡ r .absorbed = empties-length (r .absorbed) in
     let b : Transcript (List ℕ) = record { absorbed = message es; phase = g .phase; squeezed = r .squeezed } in

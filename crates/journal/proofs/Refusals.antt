@@ -17,7 +17,6 @@ use Rattle.kangarootwelve.specs.Transcript as kt
 use Rattle.kangarootwelve.specs.Transcript.{customizationLimit}
 use Rattle.kangarootwelve.specs.Model.{Nodes, machine, seen}
 use Rattle.kangarootwelve.proofs.Streaming as kt-streaming
-use Rattle.kangarootwelve.proofs.Laws.{positions}
 use Rattle.kangarootwelve.proofs.Answers.{limits-are, customization-is, customized-is}
 use Rattle.journal.specs.Published.{framed}
 use Rattle.journal.specs.Transcript.{ownStatus, framedCall, rulesAt}
@@ -66,7 +65,7 @@ second-is : (j : Journal) (c d : Call (List ℕ)) → pieces.Agree (kt.rules 168
 second-is j c d e f =
     ap (λ (y : Reply Journal). replyOf (y .left) d) (reply-is j c e) ∙ reply-is (dayOf (perform (kt.rules 168 32) (machine 168 32) (seen (j .run)) (framedCall c) .left)) d f
 
-joins : Joins (kt.rules 168 32) (machine 168 32) positions
+joins : Joins (kt.rules 168 32) (machine 168 32)
 joins = kt-streaming.corollaries 168 32 rate-positive .joins
 
 -- the bytes are the joined ones, and the day left is the same

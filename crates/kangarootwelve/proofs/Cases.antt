@@ -18,6 +18,7 @@ use Rattle.sponge.proofs.Valid.{fits-valid, squeeze-done}
 use Rattle.sponge.proofs.Valid.{output-done as valid-output}
 use Rattle.sponge.proofs.Joining.{perform-done, perform-refused}
 use Rattle.sponge.proofs.Reachable.{Shape}
+use Rattle.turboshake.specs.Published.{turboshakeRounds}
 use Rattle.turboshake.specs.Transcript.{messageLimit, outputLimit}
 use Rattle.kangarootwelve.specs.Published.{chunk}
 use Rattle.kangarootwelve.specs.Transcript.{customizationLimit, rules}
@@ -260,18 +261,18 @@ module _ (rate chaining : ℕ) (node leaf : List ℕ) (p : Progress) where
       closed-is node′ (finishTree rate chaining (treeAt (p .absorbed + p .customized) nodes) (p .customized)) (p .customized) e ∙ done-is rate chaining (runWith node leaf p) finish g
 
   module _ (pos : 0 < rate) (most : rate ≤ 200) (f : p .node ≤ rate) where
-    pub squeeze-answer : (k : ℕ) (o : Outcome) → o ≡ squeezeCall permuted rate (record { value = node; position = p .node }) k
+    pub squeeze-answer : (k : ℕ) (o : Outcome) → o ≡ squeezeCall turboshakeRounds rate (record { value = node; position = p .node }) k
         → runStatus (rules rate chaining) (machine rate chaining) (seen (runWith node leaf p)) (squeeze k) ≡ 0
         → record { status = o .status; run = runWith (o .state .value) leaf (record { node = o .state .position; leaf = p .leaf; phase = p .phase; absorbed = p .absorbed; customized = p .customized; squeezed = p .squeezed + k }) }
         ≡ answerOf rate chaining (runWith node leaf p) (squeeze k)
     unfolding machine
     squeeze-answer k o e g =
         ap (λ (u : Outcome). record { status = u .status; run = runWith (u .state .value) leaf (record { node = u .state .position; leaf = p .leaf; phase = p .phase; absorbed = p .absorbed; customized = p .customized; squeezed = p .squeezed + k }) })
-        (e ∙ squeeze-done permuted rate (record { value = node; position = p .node }) (fits-valid rate (p .node) f pos most) k)
+        (e ∙ squeeze-done turboshakeRounds rate (record { value = node; position = p .node }) (fits-valid turboshakeRounds rate (p .node) refl f pos most) k)
         ∙ done-is rate chaining (runWith node leaf p) (squeeze k) g
 
     pub squeeze-written : (out : List ℕ) → runStatus (rules rate chaining) (machine rate chaining) (seen (runWith node leaf p)) (squeeze (length out)) ≡ 0
-        → squeezeOutput permuted rate (record { value = node; position = p .node }) out ≡ outputOf rate chaining (runWith node leaf p) out
+        → squeezeOutput turboshakeRounds rate (record { value = node; position = p .node }) out ≡ outputOf rate chaining (runWith node leaf p) out
     unfolding machine
     squeeze-written out g =
-        valid-output permuted rate (record { value = node; position = p .node }) (fits-valid rate (p .node) f pos most) out ∙ written rate chaining (runWith node leaf p) out g
+        valid-output turboshakeRounds rate (record { value = node; position = p .node }) (fits-valid turboshakeRounds rate (p .node) refl f pos most) out ∙ written rate chaining (runWith node leaf p) out g

@@ -13,6 +13,7 @@ use lib.ListN.{length, drop, getD, drop-of-length-le}
 use lib.Seq.{drop-cons}
 use Rattle.sponge.specs.Status.{done, outputTooLong, badLength, firstOf}
 use Rattle.sponge.specs.Transcript.{lent}
+use Rattle.sponge.proofs.FirstStatus.{first-zero}
 use Rattle.turboshake.specs.Transcript.{messageLimit, outputLimit}
 use Rattle.kangarootwelve.specs.Published.{kt, hopmac}
 use Rattle.kangarootwelve.specs.Transcript.{customizationLimit, customizationStatus}
@@ -58,11 +59,6 @@ module _ (k m c t : ℕ) where
         unfolding checkStatus customizationStatus
         check-0 h l = rw (le-leb k messageLimit e, le-leb m messageLimit f, le-leb c customizationLimit g, ne-eqb t 0 h, le-leb t tagLimit l)
 
--- of two statuses in a row that are done, both are
-both : (a b : ℕ) → firstOf a b ≡ 0 → (a ≡ 0) × (b ≡ 0)
-both zero b h = (refl, h)
-both (suc a) b h = absurd (omega arith)
-
 taken : (c : ℕ) → c ≤ 64 → customizationStatus c ≡ 0
 unfolding customizationStatus
 taken c h = rw (le-leb c customizationLimit (omega arith))
@@ -86,8 +82,8 @@ asked-done n p h = rw (ne-eqb n 0 (λ z. omega arith), le-leb n outputLimit (ome
 hash-parts : (m c n : ℕ) → hashStatus m c n ≡ 0 → (inputStatus m ≡ 0) × (customizationStatus c ≡ 0) × (asked n ≡ 0)
 unfolding hashStatus
 hash-parts m c n e =
-    let f = both (inputStatus m) (firstOf (customizationStatus c) (asked n)) e in
-    let g = both (customizationStatus c) (asked n) (f .1) in
+    let f = first-zero (inputStatus m) (firstOf (customizationStatus c) (asked n)) e in
+    let g = first-zero (customizationStatus c) (asked n) (f .1) in
     (f .0, g .0, g .1)
 
 hash-done : (m c n : ℕ) → inputStatus m ≡ 0 → customizationStatus c ≡ 0 → asked n ≡ 0 → hashStatus m c n ≡ 0
@@ -96,7 +92,7 @@ hash-done m c n e f g = rw (e, f) g
 
 mac-parts : (k m c n : ℕ) → macStatus k m c n ≡ 0 → (inputStatus k ≡ 0) × (hashStatus m c n ≡ 0)
 unfolding macStatus
-mac-parts k m c n e = both (inputStatus k) (hashStatus m c n) e
+mac-parts k m c n e = first-zero (inputStatus k) (hashStatus m c n) e
 
 mac-done : (k m c n : ℕ) → inputStatus k ≡ 0 → hashStatus m c n ≡ 0 → macStatus k m c n ≡ 0
 unfolding macStatus
@@ -105,9 +101,9 @@ mac-done k m c n e f = rw e f
 check-parts : (k m c t : ℕ) → checkStatus k m c t ≡ 0 → (inputStatus k ≡ 0) × (inputStatus m ≡ 0) × (customizationStatus c ≡ 0) × (tagStatus t ≡ 0)
 unfolding checkStatus
 check-parts k m c t e =
-    let f = both (inputStatus k) (firstOf (inputStatus m) (firstOf (customizationStatus c) (tagStatus t))) e in
-    let g = both (inputStatus m) (firstOf (customizationStatus c) (tagStatus t)) (f .1) in
-    let h = both (customizationStatus c) (tagStatus t) (g .1) in
+    let f = first-zero (inputStatus k) (firstOf (inputStatus m) (firstOf (customizationStatus c) (tagStatus t))) e in
+    let g = first-zero (inputStatus m) (firstOf (customizationStatus c) (tagStatus t)) (f .1) in
+    let h = first-zero (customizationStatus c) (tagStatus t) (g .1) in
     (f .0, g .0, h .0, h .1)
 
 -- the two calls of KT that a HopMAC call makes are done where it is; d is the length of the inner digest

@@ -17,6 +17,7 @@ use Rattle.sponge.specs.Model.{Sponge, fresh, absorbBytes, pad, squeezeBytes, O
 use Rattle.sponge.proofs.Waiting.{steps-append, steps-part}
 use Rattle.sponge.proofs.Position.{steps-position}
 use Rattle.sponge.proofs.Valid.{fits-valid, absorb-done, pad-done, output-done, zero-lanes, pad-position}
+use Rattle.turboshake.specs.Published.{turboshakeRounds}
 use Rattle.kangarootwelve.specs.Published.{chunk, marker, trailer, lengthEncode, intermediateDomain, singleDomain, finalDomain}
 use Rattle.kangarootwelve.specs.Tree.{Tree, putTo, putByte, ending, endChunk, absorbTree, closeTo}
 use Rattle.kangarootwelve.specs.Inside.{Fits}
@@ -103,33 +104,33 @@ module _ (rate : ℕ) (pos : 0 < rate) where
   -- ---- the sponge's calls; o, q and r are what they leave
 
   module _ (most : rate ≤ 200) where
-    pub absorbed-is : (s : Sponge) (p : List ℕ) (o : Outcome) → s .position ≤ rate → o ≡ absorbCall permuted rate s p → o .state ≡ absorbBytes permuted rate s p
-    absorbed-is s p o h e = ap (λ (u : Outcome). u .state) (e ∙ absorb-done permuted rate s (fits-valid rate (s .position) h pos most) p)
+    pub absorbed-is : (s : Sponge) (p : List ℕ) (o : Outcome) → s .position ≤ rate → o ≡ absorbCall turboshakeRounds rate s p → o .state ≡ absorbBytes permuted rate s p
+    absorbed-is s p o h e = ap (λ (u : Outcome). u .state) (e ∙ absorb-done turboshakeRounds rate s (fits-valid turboshakeRounds rate (s .position) refl h pos most) p)
 
-    pub padded-is : (s : Sponge) (d : ℕ) (o : Outcome) → s .position ≤ rate → o ≡ padCall permuted rate s d → o .state ≡ pad permuted rate s d
-    padded-is s d o h e = ap (λ (u : Outcome). u .state) (e ∙ pad-done permuted rate s (fits-valid rate (s .position) h pos most) d)
+    pub padded-is : (s : Sponge) (d : ℕ) (o : Outcome) → s .position ≤ rate → o ≡ padCall turboshakeRounds rate s d → o .state ≡ pad permuted rate s d
+    padded-is s d o h e = ap (λ (u : Outcome). u .state) (e ∙ pad-done turboshakeRounds rate s (fits-valid turboshakeRounds rate (s .position) refl h pos most) d)
 
-    squeezed-is : (s : Sponge) (d : ℕ) (o : Outcome) (v r : List ℕ) → s .position ≤ rate → o ≡ padCall permuted rate s d → r ≡ squeezeOutput permuted rate (o .state) v
+    squeezed-is : (s : Sponge) (d : ℕ) (o : Outcome) (v r : List ℕ) → s .position ≤ rate → o ≡ padCall turboshakeRounds rate s d → r ≡ squeezeOutput turboshakeRounds rate (o .state) v
         → r ≡ squeezeBytes permuted rate (length v) (pad permuted rate s d)
     squeezed-is s d o v r h e f =
         let p : o .state ≡ pad permuted rate s d = padded-is s d o h e in
         let z : o .state .position ≤ rate = rw (p, pad-position permuted rate s d) zero-le in
-        f ∙ output-done permuted rate (o .state) (fits-valid rate (o .state .position) z pos most) v ∙ ap (squeezeBytes permuted rate (length v)) p
+        f ∙ output-done turboshakeRounds rate (o .state) (fits-valid turboshakeRounds rate (o .state .position) refl z pos most) v ∙ ap (squeezeBytes permuted rate (length v)) p
 
     -- the leaf is padded and squeezed into r, and r is absorbed
     pub value-row : (leaf node : Sponge) (d : ℕ) (v r : List ℕ) (o q : Outcome) → leaf .position ≤ rate → node .position ≤ rate
-        → o ≡ padCall permuted rate leaf d → r ≡ squeezeOutput permuted rate (o .state) v → q ≡ absorbCall permuted rate node r
+        → o ≡ padCall turboshakeRounds rate leaf d → r ≡ squeezeOutput turboshakeRounds rate (o .state) v → q ≡ absorbCall turboshakeRounds rate node r
         → q .state ≡ absorbBytes permuted rate node (squeezeBytes permuted rate (length v) (pad permuted rate leaf d))
     value-row leaf node d v r o q h g pads squeezes absorbs =
         absorbed-is node r q g absorbs ∙ ap (absorbBytes permuted rate node) (squeezed-is leaf d o v r h pads squeezes)
 
     -- ---- a part of a chunk
 
-    pub first-row : (node leaf : Sponge) (i : ℕ) (p : List ℕ) (o : Outcome) → i ≡ 0 → node .position ≤ rate → o ≡ absorbCall permuted rate node p
+    pub first-row : (node leaf : Sponge) (i : ℕ) (p : List ℕ) (o : Outcome) → i ≡ 0 → node .position ≤ rate → o ≡ absorbCall turboshakeRounds rate node p
         → record { final = o .state; leaf = leaf; index = i } ≡ putTo rate i node leaf p
     first-row node leaf i p o z h e = rw (z, absorbed-is node p o h e)
 
-    pub later-row : (node leaf : Sponge) (i : ℕ) (p : List ℕ) (o : Outcome) → (i ≡ 0 → ⊥) → leaf .position ≤ rate → o ≡ absorbCall permuted rate leaf p
+    pub later-row : (node leaf : Sponge) (i : ℕ) (p : List ℕ) (o : Outcome) → (i ≡ 0 → ⊥) → leaf .position ≤ rate → o ≡ absorbCall turboshakeRounds rate leaf p
         → record { final = node; leaf = o .state; index = i } ≡ putTo rate i node leaf p
     later-row node leaf zero p o z h e = absurd (z refl)
     later-row node leaf (suc i) p o z h e = rw (absorbed-is leaf p o h e)
@@ -137,7 +138,7 @@ module _ (rate : ℕ) (pos : 0 < rate) where
     -- ---- a chunk's end
 
     module _ (chaining : ℕ) where
-      pub marked-row : (node leaf : Sponge) (i : ℕ) (o : Outcome) → i ≡ 0 → node .position ≤ rate → o ≡ absorbCall permuted rate node marker
+      pub marked-row : (node leaf : Sponge) (i : ℕ) (o : Outcome) → i ≡ 0 → node .position ≤ rate → o ≡ absorbCall turboshakeRounds rate node marker
           → record { final = o .state; leaf = record { value = replicate 25 0; position = 0 }; index = 1 } ≡ endChunk rate chaining (record { final = node; leaf = leaf; index = i })
       marked-row node leaf i o z h e = rw (z, absorbed-is node marker o h e, fresh-is)
 
@@ -149,13 +150,13 @@ module _ (rate : ℕ) (pos : 0 < rate) where
 
       -- ---- the close
 
-      pub single-row : (node leaf : Sponge) (i : ℕ) (o : Outcome) → i ≡ 0 → node .position ≤ rate → o ≡ padCall permuted rate node singleDomain → o .state ≡ closeTo rate chaining i node leaf
+      pub single-row : (node leaf : Sponge) (i : ℕ) (o : Outcome) → i ≡ 0 → node .position ≤ rate → o ≡ padCall turboshakeRounds rate node singleDomain → o .state ≡ closeTo rate chaining i node leaf
       single-row node leaf i o z h e = padded-is node singleDomain o h e ∙ rw z
 
       -- s is the final node after the last chaining value; the count of leaves, the trailer and the padding follow
       pub final-row : (node leaf s : Sponge) (i : ℕ) (v : List ℕ) (count : List ℕ) (o p q : Outcome) → (i ≡ 0 → ⊥) → node .position ≤ rate → length v ≡ chaining
           → s ≡ absorbBytes permuted rate node (squeezeBytes permuted rate (length v) (pad permuted rate leaf intermediateDomain)) → count ≡ lengthEncode i
-          → o ≡ absorbCall permuted rate s count → p ≡ absorbCall permuted rate (o .state) trailer → q ≡ padCall permuted rate (p .state) finalDomain
+          → o ≡ absorbCall turboshakeRounds rate s count → p ≡ absorbCall turboshakeRounds rate (o .state) trailer → q ≡ padCall turboshakeRounds rate (p .state) finalDomain
           → q .state ≡ closeTo rate chaining i node leaf
       final-row node leaf s zero v count o p q h g l e n counts ends pads = absurd (h refl)
       final-row node leaf s (suc k) v count o p q h g l e n counts ends pads =

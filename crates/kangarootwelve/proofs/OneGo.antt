@@ -15,9 +15,9 @@ use Rattle.sponge.specs.Transcript.{lent}
 use Rattle.sponge.specs.Model.{Sponge, fresh, absorbBytes, squeezeBytes, Outcome, absorbCall, squeezeCall, squeezeOutput}
 use Rattle.sponge.proofs.Waiting.{steps-append, steps-over}
 use Rattle.sponge.proofs.Valid.{fits-valid, squeeze-done, output-done}
-use Rattle.turboshake.specs.Published.{turboshake}
-use Rattle.turboshake.specs.Transcript.{messageLimit, outputLimit}
-use Rattle.turboshake.specs.Model.{hashAtOutput}
+use Rattle.turboshake.specs.Published.{turboshakeRounds, turboshake}
+use Rattle.hasher.specs.Model.{oneGoOutput}
+use Rattle.turboshake.specs.Transcript.{messageLimit, outputLimit, function}
 use Rattle.turboshake.proofs.Published.{squeeze-turboshake}
 use Rattle.turboshake.proofs.AtRate.{at-written}
 use Rattle.kangarootwelve.specs.Published.{chunk, marker, lengthEncode, merged, intermediateDomain, kt}
@@ -96,14 +96,14 @@ part-chunk i m = let e : i * 8192 + 8192 - i * 8192 ≡ 8192 = omega arith in rw
 module _ (rate : ℕ) (pos : 0 < rate) (most : rate ≤ 200) where
   -- v is what the leaf hash wrote into a lent value of the length of w
   pub leaf-row : (node : Sponge) (p v w : List ℕ) (o : Outcome) → node .position ≤ rate → length p ≤ 8192 → 0 < length w → length w ≤ 64
-      → v ≡ hashAtOutput rate p intermediateDomain w → o ≡ absorbCall permuted rate node v
+      → v ≡ oneGoOutput (function rate) p intermediateDomain w → o ≡ absorbCall turboshakeRounds rate node v
       → o .state ≡ absorbBytes permuted rate node (turboshake rate p intermediateDomain (length w))
   leaf-row node p v w o h l some few hashes absorbs =
       absorbed-is rate pos most node v o h absorbs
       ∙ ap (absorbBytes permuted rate node) (hashes ∙ at-written rate pos most p intermediateDomain w (omega arith) (omega arith) (omega arith) some (omega arith))
 
   module _ (chaining : ℕ) where
-    pub first-chunk : (node : Sponge) (i : ℕ) (p : List ℕ) (o q : Outcome) → i ≡ 0 → node .position ≤ rate → o ≡ absorbCall permuted rate node p → q ≡ absorbCall permuted rate (o .state) marker
+    pub first-chunk : (node : Sponge) (i : ℕ) (p : List ℕ) (o q : Outcome) → i ≡ 0 → node .position ≤ rate → o ≡ absorbCall turboshakeRounds rate node p → q ≡ absorbCall turboshakeRounds rate (o .state) marker
         → record { final = q .state; leaf = fresh; index = suc i } ≡ endedChunk rate chaining (record { final = node; leaf = fresh; index = i }) p
     first-chunk node i p o q z h absorbs marks =
         let o-is : o .state ≡ absorbBytes permuted rate node p = absorbed-is rate pos most node p o h absorbs in
@@ -178,12 +178,12 @@ module _ (rate : ℕ) (pos : 0 < rate) (most : rate ≤ 200) where
     pub hash-row : (m c out node : List ℕ) (n : ℕ) (t : At Tree) (o : Outcome) (r : List ℕ) → n * chunk ≤ length m
         → t ≡ absorbTree rate chaining (record { value = endedChunks rate chaining n freshTree m; position = 0 }) (drop (n * chunk) m)
         → record { value = node; position = 0 } ≡ finalizeTree rate chaining t c
-        → o ≡ squeezeCall permuted rate (record { value = node; position = 0 }) (length out) → r ≡ squeezeOutput permuted rate (record { value = node; position = 0 }) out
+        → o ≡ squeezeCall turboshakeRounds rate (record { value = node; position = 0 }) (length out) → r ≡ squeezeOutput turboshakeRounds rate (record { value = node; position = 0 }) out
         → (o .status ≡ 0) × (r ≡ kt rate chaining m c (length out))
     hash-row m c out node n t o r h absorbs closes squeezes writes =
-        let ok = fits-valid rate 0 zero-le pos most in (
-          ap (λ (u : Outcome). u .status) (squeezes ∙ squeeze-done permuted rate (record { value = node; position = 0 }) ok (length out)),
-          writes ∙ output-done permuted rate (record { value = node; position = 0 }) ok out
+        let ok = fits-valid turboshakeRounds rate 0 refl zero-le pos most in (
+          ap (λ (u : Outcome). u .status) (squeezes ∙ squeeze-done turboshakeRounds rate (record { value = node; position = 0 }) ok (length out)),
+          writes ∙ output-done turboshakeRounds rate (record { value = node; position = 0 }) ok out
               ∙ ap (squeezeBytes permuted rate (length out)) (closes ∙ ap (λ (x : At Tree). finalizeTree rate chaining x c) absorbs)
               ∙ squeeze-whole m c n (length out) h,
         )

@@ -4,7 +4,7 @@
 use mathlib.Core.Path.{_≡_, refl, ap, _∙_}
 use mathlib.Core.List.{List}
 use mathlib.Core.Bool.{Bool, true, false, cond}
-use Prim.Native.Nat.{ℕ, _<_}
+use Prim.Native.Nat.{ℕ, zero, suc, _<_, _≤_}
 use native.Mathlib.Nat.{zero-add}
 use native.Mathlib.Omega.{arith}
 use lib.Dec.{leb}
@@ -13,10 +13,11 @@ use Rattle.sponge.specs.Status.{unreachable}
 use Rattle.sponge.specs.Transcript.{Call, Phase, Phase.absorbing, Phase.customizing, Phase.squeezing, Transcript}
 use Rattle.sponge.specs.Runs.{Run, freshRun, perform, stateOf, runOf}
 use Rattle.sponge.specs.Streaming.{history, Streaming, told, ran}
+use Rattle.sponge.specs.Callable.{Bytes, Slice}
 use Rattle.sponge.proofs.Corollaries as generic
 use Rattle.sponge.proofs.Corollaries.{Corollaries, history-held}
 use Rattle.sponge.proofs.Reachable.{Statuses}
-use Rattle.kangarootwelve.specs.Transcript.{customizationLimit, customizationStatus, customizedOf, rules}
+use Rattle.kangarootwelve.specs.Transcript.{customizationLimit, customizationStatus, customizedOf, rules, Callable}
 use Rattle.kangarootwelve.specs.Model.{Nodes, machine, held, freshOf, answerOf, replyOf}
 use Rattle.kangarootwelve.proofs.Laws.{positions, due, customization-taken, shape, shaped, laws, stays}
 
@@ -29,8 +30,17 @@ no-five rate chaining c e = by (leb (length c) customizationLimit) e
     by true e = omega arith
     by false e = omega arith
 
+-- zero bytes are bytes
+zeros : (n : ℕ) → Bytes (replicate n 0)
+zeros zero = tt
+zeros (suc n) = (omega arith, zeros n)
+
+-- as many as C may have are a slice
+zeros-slice : (n : ℕ) → n ≤ customizationLimit → Slice (replicate n 0)
+zeros-slice n l = (zeros n, rw (length-replicate {A = ℕ} n 0) (omega arith))
+
 -- a C of any length within the limit
-pub statuses : (rate chaining : ℕ) → Statuses (rules rate chaining) (machine rate chaining)
+pub statuses : (rate chaining : ℕ) → Statuses (rules rate chaining) (machine rate chaining) Callable
 unfolding rules machine
 statuses rate chaining = record {
   nothing-taken = refl;
@@ -40,6 +50,10 @@ statuses rate chaining = record {
   some-taken = λ m l. rw (length-replicate {A = ℕ} m 0) (customization-taken m l);
   some-counted = λ n s m l. length-replicate m 0;
   argument-other = no-five rate chaining;
+  can-absorb = ((omega arith, tt), omega arith);
+  can-customize = λ m l. zeros-slice m (rw (length-replicate {A = ℕ} m 0) at l);
+  can-finalize = λ m l. zeros-slice m l;
+  can-squeeze = λ n l. omega arith;
 }
 
 -- the run that a transcript tells of has the transcript's customization bytes
@@ -54,10 +68,10 @@ told-customized rate chaining t = by (t .absorbed) (t .phase) (t .squeezed)
 
 module _ (rate chaining : ℕ) (pos : 0 < rate) where
   -- the list theorem at the published KT, calls in a row, refusals, and status 5 in both directions
-  pub corollaries : Corollaries (rules rate chaining) (machine rate chaining) positions
+  pub corollaries : Corollaries (rules rate chaining) (machine rate chaining) positions Callable
   corollaries =
       generic.corollaries (rules rate chaining) (machine rate chaining) (laws rate chaining pos) (stays rate chaining pos) positions (due rate chaining)
-      (shape rate chaining) (shaped rate chaining) (statuses rate chaining)
+      (shape rate chaining) (shaped rate chaining) Callable (statuses rate chaining)
 
   pub streaming : (cs : List (Call (List ℕ))) → Streaming (rules rate chaining) (machine rate chaining) cs
   streaming = corollaries .streaming

@@ -2,11 +2,12 @@
 -- Assumes nothing.
 use mathlib.Core.List.{List}
 use mathlib.Core.Bool.{cond}
-use Prim.Native.Nat.{ℕ}
+use Prim.Native.Nat.{ℕ, _^_, _<_}
 use lib.ListN.{length}
 use lib.Dec.{leb}
 use Rattle.sponge.specs.Status.{done, customizationTooLong}
-use Rattle.sponge.specs.Transcript.{Phase, Phase.absorbing, Phase.customizing, Phase.squeezing, Customization.upTo, Rules}
+use Rattle.sponge.specs.Callable.{Slice}
+use Rattle.sponge.specs.Transcript.{Call, Call.absorb, Call.customize, Call.finalize, Call.finish, Call.squeeze, Phase, Phase.absorbing, Phase.customizing, Phase.squeezing, Customization.upTo, Rules}
 use Rattle.turboshake.specs.Transcript.{messageLimit, outputLimit}
 use Rattle.kangarootwelve.specs.Published.{kt}
 
@@ -23,6 +24,14 @@ abbrev pub customizedOf : Phase (List ℕ) → ℕ
 customizedOf absorbing = 0
 customizedOf (customizing c) = length c
 customizedOf (squeezing c) = length c
+
+-- a call that a caller can make: what it lends is a slice, the output too
+abbrev pub Callable : Call (List ℕ) → Type 0
+Callable (absorb p) = Slice p
+Callable (customize p) = Slice p
+Callable (finalize c) = Slice c
+Callable finish = Unit {0}
+Callable (squeeze k) = k < 2 ^ 64
 
 -- the published function, the status of C, and the limits; any piece is taken; C is taken in pieces too, and is what they are, joined; the
 -- bytes absorbed are those of M alone

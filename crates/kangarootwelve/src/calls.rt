@@ -339,7 +339,7 @@ pub(crate) fn squeeze(
     if OUTPUT_LIMIT < total {
         return refused(status::OUTPUT_TOO_LONG, at);
     }
-    let given = sponge::squeeze(node, at.node, rate, out);
+    let given = sponge::squeeze(node, at.node, rate, turboshake::ROUNDS, out);
     let mut next = at;
     next.node = given.position;
     next.squeezed = total;

@@ -46,7 +46,7 @@ fn absorb_leaf(
     ensures { λ r. ⌜ record { value = now (node .exit); position = r } ≡ absorbBytes permuted rate (record { value = now (node .entry); position = position }) (turboshake rate (now (leaf .entry)) intermediateDomain (length (now (value .entry)))) ⌝ }
 {
     let hashed = turboshake::hash_at_rate(rate, leaf, tree::INTERMEDIATE_NODE, value);
-    let absorbed = sponge::absorb(node, position, rate, value);
+    let absorbed = sponge::absorb(node, position, rate, turboshake::ROUNDS, value);
     absorbed.position
 }
 
@@ -64,9 +64,9 @@ fn absorb_chunk(
     ensures { λ r. ⌜ record { final = record { value = now (node .exit); position = r }; leaf = fresh; index = suc index } ≡ endedChunk rate chaining (record { final = record { value = now (node .entry); position = position }; leaf = fresh; index = index }) (now (part .entry)) ⌝ }
 {
     if index == 0 {
-        let first = sponge::absorb(node, position, rate, part);
+        let first = sponge::absorb(node, position, rate, turboshake::ROUNDS, part);
         let marker = tree::MARKER;
-        let marked = sponge::absorb(node, first.position, rate, &marker);
+        let marked = sponge::absorb(node, first.position, rate, turboshake::ROUNDS, &marker);
         return marked.position;
     }
     let mut value = [0u8; 64];
@@ -134,6 +134,6 @@ pub(crate) fn hash(
     let from = whole * tree::CHUNK;
     let last = tree::absorb(rate, chaining, &mut node, &mut leaf, at, &message[from..]);
     tree::finalize(rate, chaining, &mut node, &mut leaf, last, customization);
-    let squeezed = sponge::squeeze(&mut node, 0, rate, out);
+    let squeezed = sponge::squeeze(&mut node, 0, rate, turboshake::ROUNDS, out);
     squeezed.status
 }

@@ -44,9 +44,9 @@ fn absorb_value(
     requires { ⌜ (0 < rate) × (rate ≤ 200) × (position ≤ rate) × (reached ≤ rate) ⌝ }
     ensures { λ r. ⌜ record { value = now (node .exit); position = r } ≡ absorbBytes permuted rate (record { value = now (node .entry); position = position }) (squeezeBytes permuted rate (length (now (value .entry))) (pad permuted rate (record { value = now (leaf .entry); position = reached }) intermediateDomain)) ⌝ }
 {
-    let padded = sponge::pad(leaf, reached, rate, INTERMEDIATE_NODE);
-    let squeezed = sponge::squeeze(leaf, padded.position, rate, value);
-    let absorbed = sponge::absorb(node, position, rate, value);
+    let padded = sponge::pad(leaf, reached, rate, turboshake::ROUNDS, INTERMEDIATE_NODE);
+    let squeezed = sponge::squeeze(leaf, padded.position, rate, turboshake::ROUNDS, value);
+    let absorbed = sponge::absorb(node, position, rate, turboshake::ROUNDS, value);
     absorbed.position
 }
 
@@ -76,7 +76,7 @@ fn end_chunk(
     let fresh = [0u64; 25];
     if at.index == 0 {
         let marker = MARKER;
-        let marked = sponge::absorb(node, at.node, rate, &marker);
+        let marked = sponge::absorb(node, at.node, rate, turboshake::ROUNDS, &marker);
         *leaf = fresh;
         return opened(marked.position, 1);
     }
@@ -117,11 +117,11 @@ fn absorb_part(
     let mut next = at;
     next.position = at.position + part.len();
     if at.index == 0 {
-        let absorbed = sponge::absorb(node, at.node, rate, part);
+        let absorbed = sponge::absorb(node, at.node, rate, turboshake::ROUNDS, part);
         next.node = absorbed.position;
         return next;
     }
-    let absorbed = sponge::absorb(leaf, at.leaf, rate, part);
+    let absorbed = sponge::absorb(leaf, at.leaf, rate, turboshake::ROUNDS, part);
     next.leaf = absorbed.position;
     next
 }
@@ -157,17 +157,17 @@ fn close(rate: usize, chaining: usize, node: &mut [u64; 25], leaf: &mut [u64; 25
     ensures { λ _. ⌜ record { value = now (node .exit); position = 0 } ≡ closeTo rate chaining (at .index) (record { value = now (node .entry); position = at .node }) (record { value = now (leaf .entry); position = at .leaf }) ⌝ }
 {
     if at.index == 0 {
-        let single = sponge::pad(node, at.node, rate, SINGLE_NODE);
+        let single = sponge::pad(node, at.node, rate, turboshake::ROUNDS, SINGLE_NODE);
         return;
     }
     let mut value = [0u8; 64];
     let valued = absorb_value(rate, node, at.node, leaf, at.leaf, &mut value[0..chaining]);
     let mut encoded = [0u8; 9];
     let start = encode::length_encode(at.index, &mut encoded);
-    let counted = sponge::absorb(node, valued, rate, &encoded[start..9]);
+    let counted = sponge::absorb(node, valued, rate, turboshake::ROUNDS, &encoded[start..9]);
     let trailer = TRAILER;
-    let ended = sponge::absorb(node, counted.position, rate, &trailer);
-    let padded = sponge::pad(node, ended.position, rate, FINAL_NODE);
+    let ended = sponge::absorb(node, counted.position, rate, turboshake::ROUNDS, &trailer);
+    let padded = sponge::pad(node, ended.position, rate, turboshake::ROUNDS, FINAL_NODE);
 }
 
 // The length of the customization string follows it, and the tree is closed.

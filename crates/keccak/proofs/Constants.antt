@@ -10,14 +10,14 @@ use Rattle.keccak.specs.Permutation.{roundConstants}
 use Rattle.keccak.specs.Rules.{shifted, register, rc, bitsBelow, roundConstant}
 use Rattle.keccak.proofs.Table.{at}
 
--- the whole table: the constants of rounds 12 to 23, as the shift register gives them
-pub constants-rule : roundConstants ≡ from 12 12 roundConstant
+-- the whole table: the constants of rounds 0 to 23, as the shift register gives them
+pub constants-rule : roundConstants ≡ from 0 24 roundConstant
 unfolding from roundConstant bitsBelow rc register shifted
 constants-rule = refl
 
 word-sized : ℕ → ℕ → Bool
 word-sized k x = ltb x (2 ^ 64)
 
-pub constant-word : (k : ℕ) → k < 12 → getD roundConstants k 0 < 2 ^ 64
+pub constant-word : (k : ℕ) → k < 24 → getD roundConstants k 0 < 2 ^ 64
 unfolding word-sized
 constant-word k h = ltb→lt (getD roundConstants k 0) (2 ^ 64) (at word-sized roundConstants tt k h)

@@ -1,32 +1,21 @@
 -- What a caller of `permute` knows of its result: 25 lanes, each a word of 64 bits.
 -- Assumes nothing.
 use mathlib.Core.Path.{_≡_, _∙_}
+use mathlib.Core.Bool.{Bool, true, false, cond}
 use mathlib.Core.List.{List, [], _∷_}
-use Prim.Native.Nat.{ℕ, zero, suc, _+_, _*_, _%_, _^_, _<_, suc-le-suc}
+use Prim.Native.Nat.{ℕ, zero, suc, _+_, _-_, _*_, _%_, _^_, _<_, suc-le-suc}
 use native.Mathlib.Nat.{zero-lt-suc}
+use native.Mathlib.Omega.{arith}
 use lib.Bits.{xor-lt, and-lt}
-use lib.ListN.{length, getD, set, drop, length-set}
+use lib.Dec.{leb}
+use lib.ListN.{length, getD, set, drop, length-set, length-drop}
+use lib.Seq.{getD-drop}
 use Rattle.keccak.specs.State.{State, lane, grid}
 use Rattle.keccak.specs.Round.{parity, theta, rho, pi, chi, iota, round}
-use Rattle.keccak.specs.Permutation.{rounds, roundConstants, permuted}
+use Rattle.keccak.specs.Permutation.{rounds, roundConstants, lastRounds}
 use Rattle.keccak.proofs.Grid.{grid-length, grid-words}
 use Rattle.keccak.proofs.Words.{rotl-lt, complement-lt}
 use Rattle.keccak.proofs.Constants.{constant-word}
-
--- ---- the number of lanes, whatever the lanes are
-
-round-length : (rc : ℕ) (a : List ℕ) → length (round rc a) ≡ 25
-unfolding round iota chi
-round-length rc a = simp (length-set, grid-length)
-
-rounds-length : (rc : ℕ) (rcs a : List ℕ) → length (rounds (rc ∷ rcs) a) ≡ 25
-unfolding rounds
-rounds-length rc [] a = round-length rc a
-rounds-length rc (next ∷ rcs) a = rounds-length next rcs (round rc a)
-
-pub permuted-length : (a : List ℕ) → length (permuted a) ≡ 25
-unfolding permuted
-permuted-length a = rounds-length (getD roundConstants 0 0) (drop 1 roundConstants) a
 
 -- ---- a state stays a state
 
@@ -81,6 +70,13 @@ unfolding rounds
 rounds-state [] a h s = s
 rounds-state (rc ∷ rcs) a h s = rounds-state rcs (round rc a) (λ k g. h (suc k) (suc-le-suc g)) (round-state rc a (h 0 (zero-lt-suc (length rcs))) s)
 
-pub permuted-state : (a : List ℕ) → State a → State (permuted a)
-unfolding permuted
-permuted-state a s = rounds-state roundConstants a constant-word s
+rest-words : (i : ℕ) (k : ℕ) → k < length (drop i roundConstants) → getD (drop i roundConstants) k 0 < 2 ^ 64
+rest-words i k h = rw getD-drop (constant-word (i + k) (omega (arith, length-drop i roundConstants)))
+
+pub last-rounds-state : (n : ℕ) (a : List ℕ) → State a → State (lastRounds n a)
+unfolding lastRounds
+last-rounds-state n a s = by (leb n 24)
+  where
+    by : (t : Bool) → State (cond t (rounds (drop (24 - n) roundConstants) a) a)
+    by true = rounds-state (drop (24 - n) roundConstants) a (rest-words (24 - n)) s
+    by false = s

@@ -1,5 +1,5 @@
 -- The rules of the two tables: FIPS 202, sections 3.2.2 (Algorithm 2) and 3.2.5 (Algorithms 5 and 6). The table of offsets is `walked 24`,
--- the twelve constants are `roundConstant 12` to `roundConstant 23`; nothing that is computed uses these rules.
+-- the 24 constants are `roundConstant 0` to `roundConstant 23`; nothing that is computed uses these rules.
 -- Assumes nothing.
 use mathlib.Core.List.{List}
 use Prim.Native.Nat.{ℕ, zero, suc, _+_, _-_, _*_, _/_, _%_, _^_}

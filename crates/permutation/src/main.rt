@@ -64,7 +64,9 @@ fn write_permuted(heading: &[u8], a: [u64; 25]) -> bool {
     if !io::write_all(STDOUT_FILENO, heading) {
         return false;
     }
-    write_state(keccak::permute(a))
+    let permuted = keccak::permute(a, 12);
+    let lanes = permuted.lanes;
+    write_state(lanes)
 }
 
 fn main() {

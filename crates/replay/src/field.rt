@@ -7,7 +7,7 @@ use kangarootwelve::State;
 // The run with a field written; or the run as it was, where it has no such field or the field's type cannot hold the value.
 pub struct Written {
     pub is_done: bool,
-    pub run: turboshake::Run,
+    pub run: hasher::Run,
 }
 
 pub struct KtWritten {
@@ -15,7 +15,7 @@ pub struct KtWritten {
     pub run: kangarootwelve::Run,
 }
 
-fn refused(run: turboshake::Run) -> Written {
+fn refused(run: hasher::Run) -> Written {
     Written {
         is_done: false,
         run,
@@ -29,7 +29,7 @@ fn kt_refused(run: kangarootwelve::Run) -> KtWritten {
     }
 }
 
-pub fn write(run: turboshake::Run, field: u8, value: u64) -> Written {
+pub fn write(run: hasher::Run, field: u8, value: u64) -> Written {
     let mut next = run;
     match field {
         0 => {

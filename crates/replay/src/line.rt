@@ -63,7 +63,7 @@ fn put_totals(text: &mut [u8], phase: u8, absorbed: u64, squeezed: u64)
 }
 
 // Writes the phase, the bytes absorbed, the bytes squeezed, the position and the lanes.
-pub fn write_run(run: turboshake::Run, text: &mut [u8]) -> bool
+pub fn write_run(run: hasher::Run, text: &mut [u8]) -> bool
     requires { ⌜ 479 ≤ length (now text) ⌝ }
 {
     let lanes = run.lanes;

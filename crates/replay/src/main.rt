@@ -8,8 +8,8 @@
 //   A  the piece, or the event                                  absorb, or append                    status
 //   C  a piece of KT's customization string, or of the          customize                            status
 //      station's name
-//   F  1 byte domain byte, KT's customization string, or the    finalize                             status
-//      station's name
+//   F  TurboSHAKE's domain byte, KT's customization string,     finalize                             status
+//      or the station's name; of FIPS 202 (n = 0)
 //   E  (n = 0)                                                  finish, of KT or a day               status
 //   R                                                           squeeze                              status, the buffer
 //   S  1 byte field, 8 bytes value                              writes a field of the run in hand    set
@@ -20,11 +20,13 @@
 //   H  1 byte strength, 4 bytes L, 4 bytes length of the key,   L bytes of HopMAC in one go          as R
 //      the key, 4 bytes length of the customization string,
 //      that string, message
+//   B  1 byte function, 4 bytes L, message                      L bytes of FIPS 202 in one go        as R
+//   P  1 byte n, 200 bytes                                      the last n rounds on this state      status, the 200 bytes
 //   V  1 byte strength, 4 bytes length of the presented tag,    HopMAC's tag check                   status, yes or no
 //      the tag, then as H from the key on
 //
-// The functions are 0 TurboSHAKE128, 1 TurboSHAKE256, 2 KT128, 3 KT256, 4 the journal, whose run is a day. The strengths are
-// 0 for 128, 1 for 256.
+// The functions are 0 TurboSHAKE128, 1 TurboSHAKE256, 2 KT128, 3 KT256, 4 the journal, whose run is a day, 5 SHA3-224, 6 SHA3-256, 7 SHA3-384,
+// 8 SHA3-512, 9 SHAKE128, 10 SHAKE256. The strengths are 0 for 128, 1 for 256.
 //
 // The input's end before a record ends the program. Any other record, or one that does not fit: `bad record`, and the end.
 mod by_number;
@@ -35,8 +37,9 @@ mod kt_run;
 mod line;
 mod number;
 mod one_go;
+mod permutation;
 mod session;
-mod turboshake_run;
+mod sponge_run;
 
 ghost use Prim.Native.Nat.{_+_, _*_, _≤_};
 ghost use lib.ListN.{length};
@@ -50,9 +53,7 @@ fn answer_run(session: Session, op: u8, payload: &[u8], text: &mut [u8]) -> Sess
 {
     let chosen = session.chosen;
     match chosen {
-        Chosen::TurboShake(function) => {
-            turboshake_run::answer(session, function, op, payload, text)
-        }
+        Chosen::Sponge(function) => sponge_run::answer(session, function, op, payload, text),
         Chosen::Kt(function) => kt_run::answer(session, function, op, payload, text),
         Chosen::Journal => journal_run::answer(session, op, payload, text),
         Chosen::Nothing => session::bad_record(session),
@@ -65,7 +66,7 @@ fn answer_squeeze(session: Session, out: &mut [u8], text: &mut [u8]) -> Session
 {
     let chosen = session.chosen;
     match chosen {
-        Chosen::TurboShake(function) => turboshake_run::squeeze(session, function, out, text),
+        Chosen::Sponge(function) => sponge_run::squeeze(session, function, out, text),
         Chosen::Kt(function) => kt_run::squeeze(session, function, out, text),
         Chosen::Journal => journal_run::squeeze(session, out, text),
         Chosen::Nothing => session::bad_record(session),
@@ -78,7 +79,9 @@ fn answer(session: Session, op: u8, payload: &[u8], out: &mut [u8], text: &mut [
 {
     match op {
         b'N' => session::fresh(session, payload),
-        b'T' => one_go::turboshake(session, payload, out, text),
+        b'T' => one_go::with_domain(session, payload, out, text),
+        b'B' => one_go::without_domain(session, payload, out, text),
+        b'P' => permutation::permute(session, payload, out, text),
         b'K' => one_go::kt(session, payload, out, text),
         b'H' => hopmac::tag(session, payload, out, text),
         b'V' => hopmac::verify(session, payload),

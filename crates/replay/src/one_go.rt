@@ -15,37 +15,63 @@ use functions::kt::KtFunction;
 fn hash(
     session: Session,
     function: Function,
-    payload: &[u8],
+    message: &[u8],
+    domain: u8,
     out: &mut [u8],
     text: &mut [u8],
 ) -> Session
-    requires { ⌜ 6 ≤ length (now payload) ⌝ }
     requires { ⌜ 2 * length (now out) + 2 ≤ length (now text) ⌝ }
 {
     session::fill(out);
-    let status = functions::hash(function, &payload[6..], payload[1], out);
+    let status = functions::hash(function, message, domain, out);
     session::after_line(session, line::write_output(status, out, text))
 }
 
-// Op T.
-pub fn turboshake(session: Session, payload: &[u8], out: &mut [u8], text: &mut [u8]) -> Session
+// Op T: of a function that has a domain byte.
+pub fn with_domain(session: Session, payload: &[u8], out: &mut [u8], text: &mut [u8]) -> Session
     requires { ⌜ 262144 ≤ length (now out) ⌝ }
     requires { ⌜ 524290 ≤ length (now text) ⌝ }
 {
     if payload.len() < 6 {
         return session::bad_record(session);
     }
-    let Chosen::TurboShake(function) = by_number::function_of(payload[0]) else {
+    let Chosen::Sponge(function) = by_number::function_of(payload[0]) else {
         return session::bad_record(session);
     };
     let asked = number::of_four(payload, 2);
-    if MOST < asked {
+    if MOST < asked || !function.domain {
         return session::bad_record(session);
     }
     hash(
         session,
         function,
-        payload,
+        &payload[6..],
+        payload[1],
+        &mut out[0..asked as usize],
+        text,
+    )
+}
+
+// Op B: of a function that has none.
+pub fn without_domain(session: Session, payload: &[u8], out: &mut [u8], text: &mut [u8]) -> Session
+    requires { ⌜ 262144 ≤ length (now out) ⌝ }
+    requires { ⌜ 524290 ≤ length (now text) ⌝ }
+{
+    if payload.len() < 5 {
+        return session::bad_record(session);
+    }
+    let Chosen::Sponge(function) = by_number::function_of(payload[0]) else {
+        return session::bad_record(session);
+    };
+    let asked = number::of_four(payload, 1);
+    if MOST < asked || function.domain {
+        return session::bad_record(session);
+    }
+    hash(
+        session,
+        function,
+        &payload[5..],
+        0,
         &mut out[0..asked as usize],
         text,
     )

@@ -14,13 +14,13 @@ pub const MOST: u64 = 262144;
 pub struct Session {
     pub is_going: bool,
     pub chosen: Chosen,
-    pub run: turboshake::Run,
+    pub run: hasher::Run,
     pub kt_run: kangarootwelve::Run,
 }
 
 // No run in hand: those that stand here are not used.
 pub fn begin() -> Session {
-    let run = functions::fresh(Function::TurboShake128);
+    let run = hasher::fresh();
     let kt_run = functions::kt::fresh(KtFunction::Kt128);
     Session {
         is_going: true,
@@ -46,13 +46,13 @@ pub fn bad_record(session: Session) -> Session {
     end(session)
 }
 
-fn fresh_turboshake(session: Session, function: Function) -> Session {
-    let run = functions::fresh(function);
+fn fresh_sponge(session: Session, function: Function) -> Session {
+    let run = hasher::fresh();
     let kt_run = session.kt_run;
     let is_written = io::write_all(STDOUT_FILENO, b"fresh\n");
     Session {
         is_going: is_written,
-        chosen: Chosen::TurboShake(function),
+        chosen: Chosen::Sponge(function),
         run,
         kt_run,
     }
@@ -74,7 +74,7 @@ pub fn fresh(session: Session, payload: &[u8]) -> Session {
         return bad_record(session);
     }
     match by_number::function_of(payload[0]) {
-        Chosen::TurboShake(function) => fresh_turboshake(session, function),
+        Chosen::Sponge(function) => fresh_sponge(session, function),
         Chosen::Kt(function) => {
             fresh_kt(
                 session,

@@ -19,7 +19,7 @@ use Rattle.sponge.proofs.Reachable.{Statuses, Reached, Shape, reachable
 
 -- ---- what is claimed
 
-module _ {S A : Type 0} (U : Rules A) (M : Machine S A) (positions : S → List ℕ) where
+module _ {S A : Type 0} (U : Rules A) (M : Machine S A) where
   -- calls in a row on any run that 5 does not refuse, reached or not
   pub record Joins : Type 0 where
     pub absorb-absorb : (r : Run S) (a b : List ℕ) → M .reachable r ≡ true → r .phase ≡ 0 → r .absorbed + length (a ++ b) ≤ U .inputLimit
@@ -54,24 +54,25 @@ module _ {S A : Type 0} (U : Rules A) (M : Machine S A) (positions : S → List 
     pub customize-grows : (most : ℕ) (of : List ℕ → A) → U .customization ≡ upTo most of → (r : Run S) (p : List ℕ) → perform U M r (customize p) .status ≡ 0
         → M .customized (perform U M r (customize p) .left .state) ≡ M .customized (r .state) + length p
 
+module _ {S A : Type 0} (U : Rules A) (M : Machine S A) (positions : S → List ℕ) (can : Call A → Type 0) where
   -- status 5 exactly when no list of calls from a fresh run reaches this phase, these totals and these positions
   pub record Five : Type 0 where
-    pub five-unreached : (r : Run S) (c : Call A) → perform U M r c .status ≡ unreachable → Reached U M positions r → ⊥
-    pub unreached-five : (r : Run S) (c : Call A) → (Reached U M positions r → ⊥) → perform U M r c .status ≡ unreachable
+    pub five-unreached : (r : Run S) (c : Call A) → perform U M r c .status ≡ unreachable → Reached U M positions can r → ⊥
+    pub unreached-five : (r : Run S) (c : Call A) → (Reached U M positions can r → ⊥) → perform U M r c .status ≡ unreachable
 
   pub record Corollaries : Type 0 where
     pub streaming : (cs : List (Call A)) → Streaming U M cs
     pub equal-transcripts : (cs ds : List (Call A)) → told U M cs .left ≡ told U M ds .left → ran U M cs .left ≡ ran U M ds .left
-    pub joins : Joins
-    pub closes : Closes
-    pub refusals : Refusals
+    pub joins : Joins U M
+    pub closes : Closes U M
+    pub refusals : Refusals U M
     pub five : Five
 
 -- ---- the proof, once for every function
 
 module _ {S A : Type 0} (U : Rules A) (M : Machine S A) (L : generic.Laws U M) (stays : joining.Stays U M) (positions : S → List ℕ) (due : ℕ → ℕ → ℕ → ℕ → List ℕ)
     (shape : (r : Run S) → M .reachable r ≡ true → Shape U M positions due r) (shaped : (r : Run S) → Shape U M positions due r → M .reachable r ≡ true)
-    (O : Statuses U M) where
+    (can : Call A → Type 0) (O : Statuses U M can) where
   squeeze-nothing : (r : Run S) → M .reachable r ≡ true → r .phase ≡ 1 → perform U M r (squeeze 0) ≡ record { status = 0; bytes = []; left = r }
   squeeze-nothing r h o =
       let fits : r .squeezed ≤ U .outputLimit = subst (λ (p : ℕ). r .squeezed ≤ cond (eqb p 1) (U .outputLimit) 0) o (shape r h .squeezed-fits) in
@@ -85,13 +86,13 @@ module _ {S A : Type 0} (U : Rules A) (M : Machine S A) (L : generic.Laws U M) (
   not-customized : (r : Run S) → M .reachable r ≡ true → r .phase ≡ 0 → M .customized (r .state) ≡ 0
   not-customized r h o = let z : M .customized (r .state) ≤ 0 = rw o at (shape r h .customized-fits) in omega (arith, z)
 
-  closes : Closes U M positions
+  closes : Closes U M
   closes = record {
     finish-finalize = λ most of named r c h o l. joining.finish-finalize U M L stays most of named r c h o (not-customized r h o) l;
     pieces-finalize = λ most of named ps r p h o l. joining.pieces-finalize U M L stays most of named ps r p h o (not-customized r h o) l;
   }
 
-  joins : Joins U M positions
+  joins : Joins U M
   joins = record {
     absorb-absorb = joining.absorb-absorb U M L stays;
     absorb-nothing = λ r h o. joining.absorb-nothing U M L stays r h o (shape r h .absorbed-fits) (O .nothing-taken);
@@ -101,17 +102,17 @@ module _ {S A : Type 0} (U : Rules A) (M : Machine S A) (L : generic.Laws U M) (
     squeeze-nothing = squeeze-nothing;
   }
 
-  five-unreached : (r : Run S) (c : Call A) → perform U M r c .status ≡ unreachable → Reached U M positions r → ⊥
-  five-unreached r c e g = subst T (sym (reached-reachable U M L positions due shape shaped r g) ∙ status-five U M (O .piece-other) (O .argument-other) r c e) tt
+  five-unreached : (r : Run S) (c : Call A) → perform U M r c .status ≡ unreachable → Reached U M positions can r → ⊥
+  five-unreached r c e g = subst T (sym (reached-reachable U M L positions due shape shaped can r g) ∙ status-five U M (O .piece-other) (O .argument-other) r c e) tt
 
-  unreached-five : (r : Run S) (c : Call A) → (Reached U M positions r → ⊥) → perform U M r c .status ≡ unreachable
+  unreached-five : (r : Run S) (c : Call A) → (Reached U M positions can r → ⊥) → perform U M r c .status ≡ unreachable
   unreached-five r c g = by (M .reachable r) refl
     where
       by : (t : Bool) → M .reachable r ≡ t → perform U M r c .status ≡ unreachable
-      by true e = absurd (g (reachable-reached U M L positions due shape shaped O r e))
+      by true e = absurd (g (reachable-reached U M L positions due shape shaped can O r e))
       by false e = five-status U M (O .piece-other) (O .argument-other) r c e
 
-  pub corollaries : Corollaries U M positions
+  pub corollaries : Corollaries U M positions can
   corollaries = record {
     streaming = generic.streaming U M L;
     equal-transcripts = joining.equal-transcripts U M L;

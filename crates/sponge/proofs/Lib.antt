@@ -11,6 +11,7 @@ pub mod Valid
 pub mod Following
 pub mod Streaming
 pub mod Joining
+pub mod Done
 pub mod Both
 pub mod Reachable
 pub mod Corollaries

@@ -14,6 +14,7 @@ use Rattle.sponge.specs.Status.{unreachable, firstOf}
 use Rattle.sponge.specs.Transcript.{Call, Call.absorb, Call.customize, Call.finalize, Call.finish, Call.squeeze, Phase, Phase.absorbing, Phase.customizing, Phase.squeezing, phaseNumber, Transcript, Customization, Customization.none, Customization.upTo, customizeStatus, finishStatus, Rules, Reply, statusOf, outputOf, transcribe}
 use Rattle.sponge.specs.Runs.{Run, Machine, perform, stateOf, runOf}
 use Rattle.sponge.specs.Streaming.{history, joined, told, ran}
+use Rattle.sponge.specs.Callable.{All}
 use Rattle.sponge.proofs.Joining.{perform-status, transcribe-done}
 use Rattle.sponge.proofs.Streaming.{customizationMost, Customized, Fits, Laws, customized-none, customized-so, streaming, told-fits}
 
@@ -78,9 +79,15 @@ all-singles : {S A : Type 0} (U : Rules A) (M : Machine S A) → U .piece 1 ≡ 
 all-singles U M e [] = tt
 all-singles U M e (b ∷ f) = (e, all-singles U M e f)
 
+-- n bytes 00, one by one, can be absorbed before what can follow them
+singles-can : {S A : Type 0} (U : Rules A) (M : Machine S A) (can : Call A → Type 0) → can (absorb (0 ∷ [])) → (h : Phase A) (k : ℕ) → All can (closing U M h k)
+    → (n : ℕ) → All can (callsTo U M (singles (replicate n 0)) h k)
+singles-can U M can b h k e zero = e
+singles-can U M can b h k e (suc n) = (b, singles-can U M can b h k e n)
+
 -- what the statuses of pieces and arguments owe: nothing, and a byte alone, are taken, for each number of customization bytes an argument that has
--- as many is, and none is answered 5
-pub record Statuses {S A : Type 0} (U : Rules A) (M : Machine S A) : Type 0 where
+-- as many is, and none is answered 5; and that the calls of one list to each phase and totals can be made
+pub record Statuses {S A : Type 0} (U : Rules A) (M : Machine S A) (can : Call A → Type 0) : Type 0 where
   pub nothing-taken : U .piece 0 ≡ 0
   pub byte-taken : U .piece 1 ≡ 0
   pub piece-other : (n : ℕ) → U .piece n ≡ unreachable → ⊥
@@ -88,10 +95,15 @@ pub record Statuses {S A : Type 0} (U : Rules A) (M : Machine S A) : Type 0 wher
   pub some-taken : (m : ℕ) → m ≤ customizationMost (U .customization) → U .argument (some m) ≡ 0
   pub some-counted : (n : ℕ) (s : S) (m : ℕ) → m ≤ customizationMost (U .customization) → M .customized (M .finalize n s (some m)) ≡ m
   pub argument-other : (a : A) → U .argument a ≡ unreachable → ⊥
+  pub can-absorb : can (absorb (0 ∷ []))
+  pub can-customize : (m : ℕ) → Customized (U .customization) (replicate m 0) → can (customize (replicate m 0))
+  pub can-finalize : (m : ℕ) → m ≤ customizationMost (U .customization) → can (finalize (some m))
+  pub can-squeeze : (n : ℕ) → n ≤ U .outputLimit → can (squeeze n)
 
--- a list of calls from a fresh run that leaves r's phase, totals and positions
-pub record Reached {S A : Type 0} (U : Rules A) (M : Machine S A) (positions : S → List ℕ) (r : Run S) : Type 0 where
+-- a list of calls from a fresh run, each of which can be made, that leaves r's phase, totals and positions
+pub record Reached {S A : Type 0} (U : Rules A) (M : Machine S A) (positions : S → List ℕ) (can : Call A → Type 0) (r : Run S) : Type 0 where
   pub calls : List (Call A)
+  pub calls-can : All can calls
   pub phase-is : ran U M calls .left .phase ≡ r .phase
   pub absorbed-is : ran U M calls .left .absorbed ≡ r .absorbed
   pub customized-is : M .customized (ran U M calls .left .state) ≡ M .customized (r .state)
@@ -143,19 +155,21 @@ module _ {S A : Type 0} (U : Rules A) (M : Machine S A) (L : Laws U M) (position
 
   -- ---- a run that the test passes has the phase and the totals of a transcript within the limits, whatever its message
 
-  pub record Told (r : Run S) : Type 0 where
+  pub record Told (can : Call A → Type 0) (r : Run S) : Type 0 where
     pub phase : Phase A
+    pub phase-can : All can (closing U M phase (r .squeezed))
     pub phase-is : phaseNumber phase ≡ r .phase
     pub fits : (f : List ℕ) → length f ≡ r .absorbed → Fits U (record { absorbed = f; phase = phase; squeezed = r .squeezed })
     pub customized-is : (f : List ℕ) → M .customized (stateOf U M f phase (r .squeezed)) ≡ M .customized (r .state)
 
-  module _ (O : Statuses U M) where
-    told-at : (s : S) (h n k : ℕ) → M .reachable (record { state = s; phase = h; absorbed = n; squeezed = k }) ≡ true → Told (record { state = s; phase = h; absorbed = n; squeezed = k })
+  module _ (can : Call A → Type 0) (O : Statuses U M can) where
+    told-at : (s : S) (h n k : ℕ) → M .reachable (record { state = s; phase = h; absorbed = n; squeezed = k }) ≡ true → Told can (record { state = s; phase = h; absorbed = n; squeezed = k })
     told-at s zero n k e =
         let t = shape _ e in
         let z : M .customized s ≡ 0 = omega (arith, t .customized-fits) in
         record {
           phase = absorbing;
+          phase-can = tt;
           phase-is = refl;
           fits = λ f l. record { input-fits = rw l (t .absorbed-fits); output-fits = t .squeezed-fits; phase-taken = tt };
           customized-is = λ f. customized-none U M L f ∙ sym z;
@@ -165,6 +179,7 @@ module _ {S A : Type 0} (U : Rules A) (M : Machine S A) (L : Laws U M) (position
         let m : ℕ = M .customized s in
         record {
           phase = squeezing (O .some m);
+          phase-can = (O .can-finalize m (t .customized-fits), (O .can-squeeze k (t .squeezed-fits), tt));
           phase-is = refl;
           fits = λ f l. record { input-fits = rw l (t .absorbed-fits); output-fits = t .squeezed-fits; phase-taken = O .some-taken m (t .customized-fits) };
           customized-is = λ f. L .customized-after k _ ∙ O .some-counted _ _ m (t .customized-fits);
@@ -176,6 +191,7 @@ module _ {S A : Type 0} (U : Rules A) (M : Machine S A) (L : Laws U M) (position
         let taken : Customized (U .customization) c = has-customized (U .customization) c (t .phase-fits) (rw l (t .customized-fits)) in
         record {
           phase = customizing c;
+          phase-can = (O .can-customize (M .customized s) taken, tt);
           phase-is = refl;
           fits = λ f i. record { input-fits = rw i (t .absorbed-fits); output-fits = t .squeezed-fits; phase-taken = taken };
           customized-is = λ f. customized-so U M L f c (U .customization) refl taken ∙ l;
@@ -183,14 +199,14 @@ module _ {S A : Type 0} (U : Rules A) (M : Machine S A) (L : Laws U M) (position
     told-at s (suc (suc (suc h))) n k e =
         absurd (let l : suc (suc (suc h)) ≤ lastPhase (U .customization) = shape _ e .phase-fits in let m = last-phase (U .customization) in omega (arith, l, m))
 
-    pub reachable-told : (r : Run S) → M .reachable r ≡ true → Told r
+    pub reachable-told : (r : Run S) → M .reachable r ≡ true → Told can r
     reachable-told r e = told-at (r .state) (r .phase) (r .absorbed) (r .squeezed) e
 
     -- ---- and is reached by a list of calls
 
-    pub reachable-reached : (r : Run S) → M .reachable r ≡ true → Reached U M positions r
+    pub reachable-reached : (r : Run S) → M .reachable r ≡ true → Reached U M positions can r
     reachable-reached r e =
-        let g : Told r = reachable-told r e in
+        let g : Told can r = reachable-told r e in
         let f : List ℕ = replicate (r .absorbed) 0 in
         let l : length f ≡ r .absorbed = length-replicate (r .absorbed) 0 in
         let b : Transcript A = record { absorbed = f; phase = g .phase; squeezed = r .squeezed } in
@@ -204,6 +220,7 @@ module _ {S A : Type 0} (U : Rules A) (M : Machine S A) (L : Laws U M) (position
         let squeezed : ran U M cs .left .squeezed ≡ r .squeezed = ap (λ (q : Run S). q .squeezed) is in
         record {
           calls = cs;
+          calls-can = singles-can U M can (O .can-absorb) (g .phase) (r .squeezed) (g .phase-can) (r .absorbed);
           phase-is = phase;
           absorbed-is = absorbed;
           customized-is = customized;
@@ -213,8 +230,8 @@ module _ {S A : Type 0} (U : Rules A) (M : Machine S A) (L : Laws U M) (position
 
   -- ---- a run with the phase, the totals and the positions that a list of calls reaches passes the test
 
-  pub reached-reachable : (r : Run S) → Reached U M positions r → M .reachable r ≡ true
-  reached-reachable r g =
+  pub reached-reachable : (can : Call A → Type 0) (r : Run S) → Reached U M positions can r → M .reachable r ≡ true
+  reached-reachable can r g =
       let q : Run S = ran U M (g .calls) .left in
       let passes : M .reachable q ≡ true = rw (streaming U M L (g .calls) .run) (L .run-reachable _ (told-fits U M L (g .calls))) in
       alike-reachable q r passes (g .phase-is) (g .absorbed-is) (g .customized-is) (g .squeezed-is) (g .positions-are)

@@ -177,7 +177,7 @@ module _ {S A : Type 0} (U : Rules A) (M : Machine S A) (L : Laws U M) where
     bytes = refl;
     run = rw (L .absorb-append 0 (M .fresh) f p, zero-add, length-append f p);
     fits = record {
-      input-fits = rw (length-append f p) (leb-true _ _ (cond-zero _ _ (first-zero (U .piece (length p)) _ e)));
+      input-fits = rw (length-append f p) (leb-true _ _ (cond-zero _ _ (first-zero (U .piece (length p)) _ e .1)));
       output-fits = h .output-fits;
       phase-taken = tt;
     };

@@ -2,14 +2,18 @@
 -- Assumes nothing.
 use mathlib.Core.Path.{_≡_, refl}
 use mathlib.Core.List.{List}
-use mathlib.Core.Bool.{true, false, and-eq-true-iff}
-use Prim.Native.Nat.{ℕ, _≤_, _<_}
+use mathlib.Core.Bool.{Bool, true, false, cond, and-eq-true-iff}
+use Prim.Native.Nat.{ℕ, zero, suc, _≤_, _<_}
+use native.Mathlib.Omega.{arith}
 use lib.ListN.{length, replicate}
 use lib.Dec.{leb}
 use borrow.Author.Tests.{leb-true, le-leb}
+use Rattle.keccak.specs.Permutation.{roundsStatus, lastRounds}
 use Rattle.sponge.specs.Published.{zeroLanes}
 use Rattle.sponge.specs.Status.{done, unreachable}
-use Rattle.sponge.specs.Model.{Sponge, absorbBytes, pad, squeezeBytes, afterBytes, valid, absorbCall, padCall, squeezeCall, squeezeOutput}
+use Rattle.sponge.specs.Model.{Sponge, absorbBytes, pad, squeezeBytes, afterBytes, valid, callStatus, outcome, absorbCall, padCall, squeezeCall, squeezeOutput}
+use Rattle.sponge.specs.Transcript.{lent}
+use Rattle.sponge.proofs.FirstStatus.{first-zero}
 
 pub valid-fits : (rate position : ℕ) → valid rate position ≡ true → (position ≤ rate) × (0 < rate) × (rate ≤ 200)
 unfolding valid
@@ -18,47 +22,71 @@ valid-fits rate position e =
     let b = and-eq-true-iff (leb rate 200) (leb position rate) .0 (a .1) in
     (leb-true _ _ (b .1), leb-true _ _ (a .0), leb-true _ _ (b .0))
 
-pub fits-valid : (rate position : ℕ) → position ≤ rate → 0 < rate → rate ≤ 200 → valid rate position ≡ true
-unfolding valid
-fits-valid rate position h g f = rw (le-leb 1 rate g, le-leb rate 200 f, le-leb position rate h)
+-- what a call with status 0 knows of its numbers
+pub taken-fits : (rounds rate position : ℕ) → callStatus rounds rate position ≡ 0 → (position ≤ rate) × (0 < rate) × (rate ≤ 200)
+unfolding callStatus
+taken-fits rounds rate position e = by (valid rate position) refl (first-zero (roundsStatus rounds) _ e .1)
+  where
+    by : (t : Bool) → valid rate position ≡ t → cond t done unreachable ≡ 0 → (position ≤ rate) × (0 < rate) × (rate ≤ 200)
+    by true v z = valid-fits rate position v
+    by false v z = absurd (omega arith)
+
+pub taken-rounds : (rounds rate position : ℕ) → callStatus rounds rate position ≡ 0 → roundsStatus rounds ≡ 0
+unfolding callStatus
+taken-rounds rounds rate position e = first-zero (roundsStatus rounds) _ e .0
+
+pub fits-valid : (rounds rate position : ℕ) → roundsStatus rounds ≡ 0 → position ≤ rate → 0 < rate → rate ≤ 200 → callStatus rounds rate position ≡ 0
+unfolding callStatus valid
+fits-valid rounds rate position n h g f = rw (n, le-leb 1 rate g, le-leb rate 200 f, le-leb position rate h)
 
 -- ---- done
 
-module _ (P : List ℕ → List ℕ) (rate : ℕ) (s : Sponge) (e : valid rate (s .position) ≡ true) where
-  pub absorb-done : (piece : List ℕ) → absorbCall P rate s piece ≡ record { status = done; state = absorbBytes P rate s piece }
+module _ (rounds rate : ℕ) (s : Sponge) (e : callStatus rounds rate (s .position) ≡ 0) where
+  pub absorb-done : (piece : List ℕ) → absorbCall rounds rate s piece ≡ record { status = done; state = absorbBytes (lastRounds rounds) rate s piece }
   unfolding absorbCall
   absorb-done piece = rw e
 
-  pub pad-done : (d : ℕ) → padCall P rate s d ≡ record { status = done; state = pad P rate s d }
+  pub pad-done : (d : ℕ) → padCall rounds rate s d ≡ record { status = done; state = pad (lastRounds rounds) rate s d }
   unfolding padCall
   pad-done d = rw e
 
-  pub squeeze-done : (k : ℕ) → squeezeCall P rate s k ≡ record { status = done; state = afterBytes P rate k s }
+  pub squeeze-done : (k : ℕ) → squeezeCall rounds rate s k ≡ record { status = done; state = afterBytes (lastRounds rounds) rate k s }
   unfolding squeezeCall
   squeeze-done k = rw e
 
-  pub output-done : (out : List ℕ) → squeezeOutput P rate s out ≡ squeezeBytes P rate (length out) s
+  pub output-done : (out : List ℕ) → squeezeOutput rounds rate s out ≡ squeezeBytes (lastRounds rounds) rate (length out) s
   unfolding squeezeOutput
   output-done out = rw e
 
 -- ---- refused
 
-module _ (P : List ℕ → List ℕ) (rate : ℕ) (s : Sponge) (e : valid rate (s .position) ≡ false) where
-  pub absorb-refused : (piece : List ℕ) → absorbCall P rate s piece ≡ record { status = unreachable; state = s }
+module _ (rounds rate : ℕ) (s : Sponge) (n : ℕ) (h : n ≡ 0 → ⊥) (e : n ≡ callStatus rounds rate (s .position)) where
+  is-refused : (new : Sponge) → record { status = n; state = s } ≡ outcome (callStatus rounds rate (s .position)) new s
+  is-refused new = rw (← e) (by n h)
+    where
+      by : (m : ℕ) → (m ≡ 0 → ⊥) → record { status = m; state = s } ≡ outcome m new s
+      by zero g = absurd (g refl)
+      by (suc m) g = refl
+
+  pub absorb-refused : (piece : List ℕ) → record { status = n; state = s } ≡ absorbCall rounds rate s piece
   unfolding absorbCall
-  absorb-refused piece = rw e
+  absorb-refused piece = is-refused _
 
-  pub pad-refused : (d : ℕ) → padCall P rate s d ≡ record { status = unreachable; state = s }
+  pub pad-refused : (d : ℕ) → record { status = n; state = s } ≡ padCall rounds rate s d
   unfolding padCall
-  pad-refused d = rw e
+  pad-refused d = is-refused _
 
-  pub squeeze-refused : (k : ℕ) → squeezeCall P rate s k ≡ record { status = unreachable; state = s }
+  pub squeeze-refused : (k : ℕ) → record { status = n; state = s } ≡ squeezeCall rounds rate s k
   unfolding squeezeCall
-  squeeze-refused k = rw e
+  squeeze-refused k = is-refused _
 
-  pub output-refused : (out : List ℕ) → squeezeOutput P rate s out ≡ out
+  pub output-refused : (out : List ℕ) → out ≡ squeezeOutput rounds rate s out
   unfolding squeezeOutput
-  output-refused out = rw e
+  output-refused out = rw (← e) (by n h)
+    where
+      by : (m : ℕ) → (m ≡ 0 → ⊥) → out ≡ lent m (squeezeBytes (lastRounds rounds) rate (length out) s) out
+      by zero g = absurd (g refl)
+      by (suc m) g = refl
 
 -- a fresh state is 25 zeros
 pub zero-lanes : zeroLanes ≡ replicate 25 0

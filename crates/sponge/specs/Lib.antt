@@ -5,5 +5,6 @@ pub mod Words
 pub mod Model
 pub mod Status
 pub mod Transcript
+pub mod Callable
 pub mod Runs
 pub mod Streaming

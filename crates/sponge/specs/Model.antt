@@ -2,14 +2,16 @@
 -- A full block is permuted when its next byte arrives or at the padding, and on reading when a byte past it is asked.
 -- Assumes nothing.
 use mathlib.Core.List.{List, [], _∷_}
-use mathlib.Core.Bool.{Bool, true, false, cond, _&&_}
+use mathlib.Core.Bool.{Bool, cond, _&&_}
 use Prim.Native.Nat.{ℕ, zero, suc, _-_}
 use lib.ListN.{length}
 use lib.Dec.{leb}
 use Rattle.keccak.specs.State.{byteAt}
+use Rattle.keccak.specs.Permutation.{roundsStatus, lastRounds}
 use Rattle.sponge.specs.Published.{xorByte, zeroLanes}
 use Rattle.sponge.specs.Waiting.{At, ready, step, steps}
-use Rattle.sponge.specs.Status.{done, unreachable}
+use Rattle.sponge.specs.Status.{done, unreachable, firstOf}
+use Rattle.sponge.specs.Transcript.{lent}
 
 -- 25 lanes and the position in the block
 abbrev pub Sponge : Type 0
@@ -53,21 +55,25 @@ pub record Outcome : Type 0 where
   pub status : ℕ
   pub state : Sponge
 
--- done; or refused, and all is as it was
-abbrev pub outcome : Bool → Sponge → Sponge → Outcome
-outcome true new old = record { status = done; state = new }
-outcome false new old = record { status = unreachable; state = old }
+-- the status of a call: 16 for more than 24 rounds, then 5 for what is no rate or no position
+unfoldable pub callStatus : ℕ → ℕ → ℕ → ℕ
+callStatus rounds rate position = firstOf (roundsStatus rounds) (cond (valid rate position) done unreachable)
 
-module _ (P : List ℕ → List ℕ) (rate : ℕ) (s : Sponge) where
+-- done; or refused, and all is as it was
+abbrev pub outcome : ℕ → Sponge → Sponge → Outcome
+outcome zero new old = record { status = done; state = new }
+outcome (suc n) new old = record { status = suc n; state = old }
+
+module _ (rounds rate : ℕ) (s : Sponge) where
   unfoldable pub absorbCall : List ℕ → Outcome
-  absorbCall piece = outcome (valid rate (s .position)) (absorbBytes P rate s piece) s
+  absorbCall piece = outcome (callStatus rounds rate (s .position)) (absorbBytes (lastRounds rounds) rate s piece) s
 
   unfoldable pub padCall : ℕ → Outcome
-  padCall d = outcome (valid rate (s .position)) (pad P rate s d) s
+  padCall d = outcome (callStatus rounds rate (s .position)) (pad (lastRounds rounds) rate s d) s
 
   unfoldable pub squeezeCall : ℕ → Outcome
-  squeezeCall k = outcome (valid rate (s .position)) (afterBytes P rate k s) s
+  squeezeCall k = outcome (callStatus rounds rate (s .position)) (afterBytes (lastRounds rounds) rate k s) s
 
   -- what the lent output holds after a squeeze, which held `out` before
   unfoldable pub squeezeOutput : List ℕ → List ℕ
-  squeezeOutput out = cond (valid rate (s .position)) (squeezeBytes P rate (length out) s) out
+  squeezeOutput out = lent (callStatus rounds rate (s .position)) (squeezeBytes (lastRounds rounds) rate (length out) s) out

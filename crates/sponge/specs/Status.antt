@@ -1,6 +1,7 @@
 -- The numbers of document 01's table that calls on runs and in one go answer. Their constants in code stand in src/status.rt.
 -- Assumes nothing.
 use Prim.Native.Nat.{ℕ, zero, suc}
+use Rattle.keccak.specs.Permutation as permutation
 
 abbrev pub done : ℕ
 done = 0
@@ -38,6 +39,10 @@ badLength = 7
 -- an event of a day is longer than its limit
 abbrev pub eventTooLong : ℕ
 eventTooLong = 8
+
+-- more than 24 rounds of the permutation
+abbrev pub tooManyRounds : ℕ
+tooManyRounds = permutation.tooManyRounds
 
 -- the first status of two that is not 0
 abbrev pub firstOf : ℕ → ℕ → ℕ

@@ -1,4 +1,4 @@
-// The sponge over Keccak-p[1600, 12] for any rate from 1 to 200 bytes, on lent lanes and a position.
+// The sponge over Keccak-p[1600, n] for any rate from 1 to 200 bytes and up to 24 rounds, on lent lanes and a position.
 //
 // The position is the number of bytes of the block in hand that were absorbed or squeezed. A full block is permuted when its
 // next byte arrives or at the padding, and on squeezing when a byte past it is asked: a position equal to the rate is one.
@@ -8,11 +8,10 @@ pub mod status;
 ghost use mathlib.Core.Path.{_≡_};
 ghost use Prim.Native.Nat.{_<_, _≤_, min};
 ghost use lib.ListN.{length};
-ghost use Rattle.keccak.specs.Permutation.{permuted};
+ghost use Rattle.keccak.specs.Permutation.{lastRounds};
 ghost use Rattle.sponge.specs.Waiting.{ready};
-ghost use Rattle.sponge.specs.Model.{absorbBytes, squeezeBytes, afterBytes, valid};
+ghost use Rattle.sponge.specs.Model.{absorbBytes, squeezeBytes, afterBytes, valid, callStatus};
 ghost use Rattle.sponge.specs.Model as model;
-ghost use Rattle.sponge.specs.Status.{unreachable};
 
 // What a call answers: its status and the position that it leaves.
 pub struct Answer {
@@ -33,12 +32,25 @@ fn is_valid(rate: usize, position: usize) -> bool
     position <= rate
 }
 
-// What is no rate or no position is left as it is.
-fn refused(position: usize) -> Answer
-    ensures { λ r. ⌜ r ≡ record { status = unreachable; position = position } ⌝ }
+// 16 for more than 24 rounds, then 5 for what is no rate or no position.
+pub fn call_status(rounds: usize, rate: usize, position: usize) -> u8
+    ensures { λ r. ⌜ r ≡ callStatus rounds rate position ⌝ }
+{
+    if 24 < rounds {
+        return status::TOO_MANY_ROUNDS;
+    }
+    if !is_valid(rate, position) {
+        return status::UNREACHABLE;
+    }
+    status::DONE
+}
+
+// What is refused is left as it is.
+fn refused(number: u8, position: usize) -> Answer
+    ensures { λ r. ⌜ r ≡ record { status = number; position = position } ⌝ }
 {
     Answer {
-        status: status::UNREACHABLE,
+        status: number,
         position,
     }
 }
@@ -50,27 +62,33 @@ fn least(x: usize, y: usize) -> usize
 }
 
 // Permutes a full block, and answers the position of the next byte.
-fn next_position(lanes: &mut [u64; 25], position: usize, rate: usize) -> usize
+fn next_position(lanes: &mut [u64; 25], position: usize, rate: usize, rounds: usize) -> usize
     requires { ⌜ (position ≤ rate) × (0 < rate) ⌝ }
     ensures { λ r. ⌜ r < rate ⌝ }
-    ensures { λ r. ⌜ record { value = now (lanes .exit); position = r } ≡ ready permuted rate (record { value = now (lanes .entry); position = position }) ⌝ }
+    ensures { λ r. ⌜ record { value = now (lanes .exit); position = r } ≡ ready (lastRounds rounds) rate (record { value = now (lanes .entry); position = position }) ⌝ }
 {
     if position == rate {
-        keccak::permute_in_place(lanes);
+        keccak::permute_in_place(lanes, rounds);
         return 0;
     }
     position
 }
 
 // Absorbs a piece a block at a time, and answers the position after it.
-fn absorb_blocks(lanes: &mut [u64; 25], position: usize, rate: usize, piece: &[u8]) -> usize
+fn absorb_blocks(
+    lanes: &mut [u64; 25],
+    position: usize,
+    rate: usize,
+    rounds: usize,
+    piece: &[u8],
+) -> usize
     requires { ⌜ (position ≤ rate) × (0 < rate) × (rate ≤ 200) ⌝ }
-    ensures { λ r. ⌜ record { value = now (lanes .exit); position = r } ≡ absorbBytes permuted rate (record { value = now (lanes .entry); position = position }) (now (piece .entry)) ⌝ }
+    ensures { λ r. ⌜ record { value = now (lanes .exit); position = r } ≡ absorbBytes (lastRounds rounds) rate (record { value = now (lanes .entry); position = position }) (now (piece .entry)) ⌝ }
 {
     let mut p = position;
     let mut i = 0;
     while i < piece.len() {
-        let at = next_position(lanes, p, rate);
+        let at = next_position(lanes, p, rate, rounds);
         let k = least(rate - at, piece.len() - i);
         block::xor_part(lanes, at, &piece[i..i + k]);
         p = at + k;
@@ -80,15 +98,21 @@ fn absorb_blocks(lanes: &mut [u64; 25], position: usize, rate: usize, piece: &[u
 }
 
 // Squeezes into a lent output a block at a time, and answers the position after it.
-fn squeeze_blocks(lanes: &mut [u64; 25], position: usize, rate: usize, out: &mut [u8]) -> usize
+fn squeeze_blocks(
+    lanes: &mut [u64; 25],
+    position: usize,
+    rate: usize,
+    rounds: usize,
+    out: &mut [u8],
+) -> usize
     requires { ⌜ (position ≤ rate) × (0 < rate) × (rate ≤ 200) ⌝ }
-    ensures { λ r. ⌜ now (out .exit) ≡ squeezeBytes permuted rate (length (now (out .entry))) (record { value = now (lanes .entry); position = position }) ⌝ }
-    ensures { λ r. ⌜ record { value = now (lanes .exit); position = r } ≡ afterBytes permuted rate (length (now (out .entry))) (record { value = now (lanes .entry); position = position }) ⌝ }
+    ensures { λ r. ⌜ now (out .exit) ≡ squeezeBytes (lastRounds rounds) rate (length (now (out .entry))) (record { value = now (lanes .entry); position = position }) ⌝ }
+    ensures { λ r. ⌜ record { value = now (lanes .exit); position = r } ≡ afterBytes (lastRounds rounds) rate (length (now (out .entry))) (record { value = now (lanes .entry); position = position }) ⌝ }
 {
     let mut p = position;
     let mut i = 0;
     while i < out.len() {
-        let at = next_position(lanes, p, rate);
+        let at = next_position(lanes, p, rate, rounds);
         let k = least(rate - at, out.len() - i);
         block::read_part(lanes, at, &mut out[i..i + k]);
         p = at + k;
@@ -98,24 +122,31 @@ fn squeeze_blocks(lanes: &mut [u64; 25], position: usize, rate: usize, out: &mut
 }
 
 // Puts the last byte of the input and the padding into the block, and permutes it.
-fn pad_block(lanes: &mut [u64; 25], position: usize, rate: usize, last: u8)
+fn pad_block(lanes: &mut [u64; 25], position: usize, rate: usize, rounds: usize, last: u8)
     requires { ⌜ (position ≤ rate) × (0 < rate) × (rate ≤ 200) ⌝ }
-    ensures { λ _. ⌜ record { value = now (lanes .exit); position = 0 } ≡ model.pad permuted rate (record { value = now (lanes .entry); position = position }) last ⌝ }
+    ensures { λ _. ⌜ record { value = now (lanes .exit); position = 0 } ≡ model.pad (lastRounds rounds) rate (record { value = now (lanes .entry); position = position }) last ⌝ }
 {
-    let at = next_position(lanes, position, rate);
+    let at = next_position(lanes, position, rate, rounds);
     block::xor_byte(lanes, at, last);
     block::xor_byte(lanes, rate - 1, 0x80);
-    keccak::permute_in_place(lanes);
+    keccak::permute_in_place(lanes, rounds);
 }
 
 // Absorbs a piece.
-pub fn absorb(lanes: &mut [u64; 25], position: usize, rate: usize, piece: &[u8]) -> Answer
-    ensures { λ r. ⌜ record { status = r .status; state = record { value = now (lanes .exit); position = r .position } } ≡ model.absorbCall permuted rate (record { value = now (lanes .entry); position = position }) (now (piece .entry)) ⌝ }
+pub fn absorb(
+    lanes: &mut [u64; 25],
+    position: usize,
+    rate: usize,
+    rounds: usize,
+    piece: &[u8],
+) -> Answer
+    ensures { λ r. ⌜ record { status = r .status; state = record { value = now (lanes .exit); position = r .position } } ≡ model.absorbCall rounds rate (record { value = now (lanes .entry); position = position }) (now (piece .entry)) ⌝ }
 {
-    if !is_valid(rate, position) {
-        return refused(position);
+    let refusal = call_status(rounds, rate, position);
+    if refusal != status::DONE {
+        return refused(refusal, position);
     }
-    let after = absorb_blocks(lanes, position, rate, piece);
+    let after = absorb_blocks(lanes, position, rate, rounds, piece);
     Answer {
         status: status::DONE,
         position: after,
@@ -123,13 +154,14 @@ pub fn absorb(lanes: &mut [u64; 25], position: usize, rate: usize, piece: &[u8])
 }
 
 // Ends the input with the byte `last` and the padding, and permutes: the state is then ready to be squeezed.
-pub fn pad(lanes: &mut [u64; 25], position: usize, rate: usize, last: u8) -> Answer
-    ensures { λ r. ⌜ record { status = r .status; state = record { value = now (lanes .exit); position = r .position } } ≡ model.padCall permuted rate (record { value = now (lanes .entry); position = position }) last ⌝ }
+pub fn pad(lanes: &mut [u64; 25], position: usize, rate: usize, rounds: usize, last: u8) -> Answer
+    ensures { λ r. ⌜ record { status = r .status; state = record { value = now (lanes .exit); position = r .position } } ≡ model.padCall rounds rate (record { value = now (lanes .entry); position = position }) last ⌝ }
 {
-    if !is_valid(rate, position) {
-        return refused(position);
+    let refusal = call_status(rounds, rate, position);
+    if refusal != status::DONE {
+        return refused(refusal, position);
     }
-    pad_block(lanes, position, rate, last);
+    pad_block(lanes, position, rate, rounds, last);
     Answer {
         status: status::DONE,
         position: 0,
@@ -137,14 +169,21 @@ pub fn pad(lanes: &mut [u64; 25], position: usize, rate: usize, last: u8) -> Ans
 }
 
 // Squeezes as many bytes as the lent output holds.
-pub fn squeeze(lanes: &mut [u64; 25], position: usize, rate: usize, out: &mut [u8]) -> Answer
-    ensures { λ r. ⌜ record { status = r .status; state = record { value = now (lanes .exit); position = r .position } } ≡ model.squeezeCall permuted rate (record { value = now (lanes .entry); position = position }) (length (now (out .entry))) ⌝ }
-    ensures { λ r. ⌜ now (out .exit) ≡ model.squeezeOutput permuted rate (record { value = now (lanes .entry); position = position }) (now (out .entry)) ⌝ }
+pub fn squeeze(
+    lanes: &mut [u64; 25],
+    position: usize,
+    rate: usize,
+    rounds: usize,
+    out: &mut [u8],
+) -> Answer
+    ensures { λ r. ⌜ record { status = r .status; state = record { value = now (lanes .exit); position = r .position } } ≡ model.squeezeCall rounds rate (record { value = now (lanes .entry); position = position }) (length (now (out .entry))) ⌝ }
+    ensures { λ r. ⌜ now (out .exit) ≡ model.squeezeOutput rounds rate (record { value = now (lanes .entry); position = position }) (now (out .entry)) ⌝ }
 {
-    if !is_valid(rate, position) {
-        return refused(position);
+    let refusal = call_status(rounds, rate, position);
+    if refusal != status::DONE {
+        return refused(refusal, position);
     }
-    let read = squeeze_blocks(lanes, position, rate, out);
+    let read = squeeze_blocks(lanes, position, rate, rounds, out);
     Answer {
         status: status::DONE,
         position: read,

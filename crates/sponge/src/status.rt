@@ -16,3 +16,5 @@ pub const OUTPUT_TOO_LONG: u8 = 6;
 pub const BAD_LENGTH: u8 = 7;
 
 pub const EVENT_TOO_LONG: u8 = 8;
+
+pub const TOO_MANY_ROUNDS: u8 = keccak::TOO_MANY_ROUNDS;

@@ -1,7 +1,3 @@
 pub mod Published
-pub mod Laws
-pub mod Streaming
-pub mod Pieces
+pub mod Claims
 pub mod AtRate
-mod Cases
-mod OneGo

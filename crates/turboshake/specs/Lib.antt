@@ -1,3 +1,3 @@
 pub mod Published
 pub mod Transcript
-pub mod Model
+pub mod Claims

@@ -6,6 +6,10 @@ use Prim.Native.Nat.{ℕ}
 use Rattle.keccak.specs.Permutation.{permuted}
 use Rattle.sponge.specs.Published.{sponge}
 
+-- the rounds of the draft's KP
+abbrev pub turboshakeRounds : ℕ
+turboshakeRounds = 12
+
 -- n bytes of output for the message m and the domain separation byte d, which is 0x01 to 0x7F
 unfoldable pub turboshake : ℕ → List ℕ → ℕ → ℕ → List ℕ
 turboshake rate m d n = sponge permuted rate m d n

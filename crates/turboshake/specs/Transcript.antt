@@ -1,31 +1,23 @@
--- What the transcript of a run, document 01's book, says of TurboSHAKE, over the rate.
+-- TurboSHAKE as a function of the sponge, and what the transcript of a run, document 01's book, says of it, over the rate.
 -- Assumes nothing.
 use mathlib.Core.Bool.{cond, _&&_}
 use Prim.Native.Nat.{ℕ}
 use lib.Dec.{leb}
 use Rattle.sponge.specs.Status.{done, badDomain}
-use Rattle.sponge.specs.Transcript.{Customization.none, Rules}
-use Rattle.turboshake.specs.Published.{turboshake}
+use Rattle.hasher.specs.Function as hasher
+use Rattle.hasher.specs.Function.{Function, longOutput}
+use Rattle.turboshake.specs.Published.{turboshakeRounds}
 
--- the most bytes of a message, 2^34 - 1 (request Q-2)
 abbrev pub messageLimit : ℕ
-messageLimit = 17179869183
+messageLimit = hasher.messageLimit
 
--- the most bytes of output
 abbrev pub outputLimit : ℕ
-outputLimit = 4294967295
+outputLimit = longOutput
 
 -- the domain separation byte is 01 to 7F
 unfoldable pub domainStatus : ℕ → ℕ
 domainStatus d = cond (leb 1 d && leb d 0x7F) done badDomain
 
--- the published function, the status of D, and the limits; any piece is taken, and there is no customization phase
-unfoldable pub rules : ℕ → Rules ℕ
-rules rate = record {
-  output = turboshake rate;
-  argument = domainStatus;
-  piece = λ n. done;
-  customization = none;
-  inputLimit = messageLimit;
-  outputLimit = outputLimit;
-}
+-- TurboSHAKE at a rate: D is the byte that follows the message
+abbrev pub function : ℕ → Function ℕ
+function rate = record { rate = rate; rounds = turboshakeRounds; byte = λ d. d; argument = domainStatus; outputLimit = outputLimit }

@@ -7,11 +7,12 @@ mod kt;
 ghost use mathlib.Core.Path.{_≡_};
 ghost use Prim.Native.Nat.{_≤_, min};
 ghost use lib.ListN.{length};
-use functions::Answer;
 use functions::Function;
+use hasher::Answer;
+use hasher::Run;
 use libc::STDOUT_FILENO;
 use sponge::status::DONE;
-use turboshake::Run;
+use turboshake::TurboShake128;
 
 // The longest piece of a message: 32 times the pattern, so that the next piece begins with 00 again.
 const PIECE: usize = 8032;
@@ -58,7 +59,7 @@ fn fill(buffer: &mut [u8], is_ff: bool) {
 fn absorb_message(function: Function, buffer: &[u8], n: usize) -> Answer
     requires { ⌜ 8032 ≤ length (now buffer) ⌝ }
 {
-    let run = functions::fresh(function);
+    let run = hasher::fresh();
     let mut answer = Answer { status: DONE, run };
     let mut left = n;
     while 0 < left && answer.status == DONE {
@@ -101,10 +102,10 @@ fn digest(vector: Vector, out: &mut [u8]) -> u8 {
 }
 
 fn write_name(function: Function) -> bool {
-    match function {
-        Function::TurboShake128 => io::write_all(STDOUT_FILENO, b"TurboSHAKE128 "),
-        Function::TurboShake256 => io::write_all(STDOUT_FILENO, b"TurboSHAKE256 "),
+    if function.rate == TurboShake128::RATE {
+        return io::write_all(STDOUT_FILENO, b"TurboSHAKE128 ");
     }
+    io::write_all(STDOUT_FILENO, b"TurboSHAKE256 ")
 }
 
 fn write_kind(is_ff: bool) -> bool {
@@ -224,9 +225,9 @@ fn write_vectors(function: Function, asked: usize) -> bool
 }
 
 fn main() {
-    if write_pattern(Function::TurboShake128, 0, 32)
-        && write_vectors(Function::TurboShake128, 32)
-        && write_vectors(Function::TurboShake256, 64)
+    if write_pattern(functions::turboshake128(), 0, 32)
+        && write_vectors(functions::turboshake128(), 32)
+        && write_vectors(functions::turboshake256(), 64)
     {
         kt::write_vectors();
     }

@@ -28,7 +28,7 @@ loop-holds c = (omega arith, refl)
 loop-again : tie.Need-loop-again Inv-loop μ-loop
 loop-again c =
     let at = c .before .before .before .loop in
-    (omega arith, one-more _ (at .lanes) (c .permute-in-place .last .0) (at .i) (at .inv .1) (c .permute-in-place .ensures))
+    (omega arith, one-more _ (at .lanes) (c .permute-in-place .last .0) (at .i) (at .inv .1) (c .permute-in-place .ensures .1))
 
 returns : tie.Need-returns Inv-loop μ-loop
 returns c =

@@ -9,7 +9,7 @@ use Rattle.bench.proofs.bench_pieces.Statement.{statement}
 use Rattle.bench.proofs.bench_pieces.Tie as tie
 
 abbrev Inv-loop : tie.InvT-loop
-Inv-loop message step out hasher₀ i₀ hasher i = Absorbed turboHasher message hasher i
+Inv-loop message step out hasher₀ i₀ hasher i = Absorbed turboHasher message (hasher .run) i
 
 abbrev μ-loop : tie.MeasureT-loop
 μ-loop message step out hasher₀ i₀ hasher i = length message - i
@@ -21,7 +21,7 @@ fresh-requires : tie.Need-fresh-requires Inv-loop μ-loop
 fresh-requires c κs = search needs
 
 loop-holds : tie.Need-loop-holds Inv-loop μ-loop
-loop-holds c = start turboHasher (c .before .before .before .before .args .message .now) (c .fresh .result) (c .fresh .ensures)
+loop-holds c = start turboHasher (c .before .before .before .before .args .message .now) (c .fresh .result .run) (c .fresh .ensures)
 
 sub-least : tie.Need-sub-least Inv-loop μ-loop
 sub-least c = search needs
@@ -50,7 +50,7 @@ returns-2 c =
     let a = l .before .before .before .before .before .args in
     let k = c .before .before .before .before .before .least .result in
     let r = c .before .before .before .absorb in
-    refused turboHasher (a .message .now) (l .loop .hasher) (l .loop .i) k (l .loop .inv) (omega arith) (r .result) (r .ensures) (a .step) (l .before .before .if1 .left) (a .out .now) (c .if2 .taken)
+    refused turboHasher (a .message .now) (l .loop .hasher .run) (l .loop .i) k (l .loop .inv) (omega arith) (record { run = r .result .hasher .run; status = r .result .status }) (r .ensures) (a .step) (l .before .before .if1 .left) (a .out .now) (c .if2 .taken)
 
 add-i : tie.Need-add-i Inv-loop μ-loop
 add-i c = search needs
@@ -64,7 +64,7 @@ loop-again c =
     let a = l .before .before .before .before .before .args in
     let k = c .before .before .before .before .before .least .result in
     let r = c .before .before .before .absorb in
-    again turboHasher (a .message .now) (l .loop .hasher) (l .loop .i) k (l .loop .inv) (omega arith) (r .result) (r .ensures) (c .if2 .left)
+    again turboHasher (a .message .now) (l .loop .hasher .run) (l .loop .i) k (l .loop .inv) (omega arith) (record { run = r .result .hasher .run; status = r .result .status }) (r .ensures) (c .if2 .left)
 
 finalize-requires : tie.Need-finalize-requires Inv-loop μ-loop
 finalize-requires c κs = search needs
@@ -82,7 +82,7 @@ returns-3 c =
     let a = l .before .before .before .before .before .args in
     let f = c .before .before .before .before .before .finalize in
     let q = c .before .before .squeeze in
-    row turboHasher (a .message .now) (l .loop .hasher) (l .loop .i) (l .loop .inv) (e .loop-test .left) (f .result) (f .ensures) (a .out .now) (q .result) (q .ensures .0) (q .last .1 .0) (q .ensures .1) (a .step) (l .before .before .if1 .left)
+    row turboHasher (a .message .now) (l .loop .hasher .run) (l .loop .i) (l .loop .inv) (e .loop-test .left) (record { run = f .result .hasher .run; status = f .result .status }) (f .ensures) (a .out .now) (record { run = q .result .hasher .run; status = q .result .status }) (q .ensures .0) (q .last .1 .0) (q .ensures .1) (a .step) (l .before .before .if1 .left)
 
 pub bench-pieces-spec : {M : Type 1} → statement M
 bench-pieces-spec =

@@ -1,52 +1,15 @@
-use mathlib.Core.Path.{ap, sym, _∙_}
-use Rattle.sponge.specs.Transcript.{Call.finalize}
-use Rattle.turboshake.specs.declared.Answer128.{Answer128}
-use Rattle.turboshake.specs.declared.Answer256.{Answer256}
-use Rattle.functions.specs.declared.Function.{Function}
-use Rattle.functions.specs.Functions.{answerIn}
+use mathlib.Core.Path.{ap, _∙_}
 use borrow.Author.Needs.{needs}
+use Rattle.sponge.specs.Transcript.{Call.finalize}
+use Rattle.hasher.specs.Model.{Ending, answerOf}
+use Rattle.functions.specs.Functions.{given}
 use Rattle.functions.proofs.finalize.Statement.{statement}
 use Rattle.functions.proofs.finalize.Tie as tie
 
-enum-told : tie.Need-enum-told
-enum-told c = search needs
-
-finalize-requires : tie.Need-finalize-requires
-finalize-requires c κs = search needs
-
-answer-of-128-requires : tie.Need-answer-of-128-requires
-answer-of-128-requires c κs = search needs
-
-enum-told-2 : tie.Need-enum-told-2
-enum-told-2 c = search needs
-
-finalize-requires-2 : tie.Need-finalize-requires-2
-finalize-requires-2 c κs = search needs
-
-answer-of-256-requires : tie.Need-answer-of-256-requires
-answer-of-256-requires c κs = search needs
-
 returns : tie.Need-returns
 returns c =
-    let a = c .before .before .before .before .args in
-    c .answer-of-128 .ensures ∙ ap (λ (x : Answer128). record { run = x .hasher .run; status = x .status }) (c .before .finalize .ensures)
-    ∙ sym (ap (λ (x : Function). answerIn x (a .run) (finalize (a .domain))) (c .before .before .enum-told .given .1))
-
-returns-2 : tie.Need-returns-2
-returns-2 c =
-    let a = c .before .before .before .before .args in
-    c .answer-of-256 .ensures ∙ ap (λ (x : Answer256). record { run = x .hasher .run; status = x .status }) (c .before .finalize2 .ensures)
-    ∙ sym (ap (λ (x : Function). answerIn x (a .run) (finalize (a .domain))) (c .before .before .enum-told2 .given .1))
+    let a = c .before .before .args in
+    c .finalize .ensures ∙ ap (λ (e : Ending). answerOf (given (a .function)) (a .run) (finalize e)) (c .before .closing .ensures)
 
 pub finalize-spec : {M : Type 1} → statement M
-finalize-spec =
-    tie.close
-    (tie.spec
-    enum-told
-    finalize-requires
-    answer-of-128-requires
-    enum-told-2
-    finalize-requires-2
-    answer-of-256-requires
-    returns
-    returns-2)
+finalize-spec = tie.close (tie.spec (λ c κs. search needs) (λ c κs. search needs) returns)

@@ -3,7 +3,7 @@ use mathlib.Core.List.{List}
 use Prim.Native.Nat.{ℕ, _+_, _-_, _≤_}
 use native.Mathlib.Omega.{arith}
 use lib.ListN.{length, take, drop}
-use Rattle.keccak.specs.Permutation.{permuted}
+use Rattle.keccak.specs.Permutation.{lastRounds}
 use Rattle.sponge.specs.Cut.{puts}
 use Rattle.sponge.specs.Published.{xorByte}
 use Rattle.sponge.specs.Model.{absorbBytes}
@@ -13,12 +13,12 @@ use Rattle.sponge.proofs.absorb_blocks.Tie as tie
 
 -- what is left of the piece takes the state in hand to where the whole piece takes the first
 abbrev Inv-loop : tie.InvT-loop
-Inv-loop lanes₀ position rate piece p₀ i₀ lanes p i =
+Inv-loop lanes₀ position rate rounds piece p₀ i₀ lanes p i =
     (i ≤ length piece) × (p ≤ rate)
-    × (absorbBytes permuted rate (record { value = lanes; position = p }) (drop i piece) ≡ absorbBytes permuted rate (record { value = lanes₀; position = p₀ }) piece)
+    × (absorbBytes (lastRounds rounds) rate (record { value = lanes; position = p }) (drop i piece) ≡ absorbBytes (lastRounds rounds) rate (record { value = lanes₀; position = p₀ }) piece)
 
 abbrev μ-loop : tie.MeasureT-loop
-μ-loop lanes₀ position rate piece p₀ i₀ lanes p i = length piece - i
+μ-loop lanes₀ position rate rounds piece p₀ i₀ lanes p i = length piece - i
 
 loop-holds : tie.Need-loop-holds Inv-loop μ-loop
 loop-holds c = (omega arith, omega arith, refl)
@@ -68,9 +68,9 @@ loop-again c =
     let e : l .loop .i + k - l .loop .i ≡ k = omega arith in (
       omega arith,
       omega arith,
-      ap (λ (m : List ℕ). absorbBytes permuted (a .rate) (record { value = m; position = r .result + k }) (drop (l .loop .i + k) (a .piece .now))) (c .xor-part .ensures)
-          ∙ ap (λ (n : ℕ). absorbBytes permuted (a .rate) (record { value = puts xorByte (r .last .0) (r .result) (take n (drop (l .loop .i) (a .piece .now))); position = r .result + k }) (drop (l .loop .i + k) (a .piece .now))) e
-          ∙ absorb-part permuted (a .rate) (record { value = l .loop .lanes; position = l .loop .p }) (r .last .0) (r .result) (r .ensures .1) (r .ensures .0) (a .piece .now) (l .loop .i) k (omega arith) (omega arith) (omega arith)
+      ap (λ (m : List ℕ). absorbBytes (lastRounds (a .rounds)) (a .rate) (record { value = m; position = r .result + k }) (drop (l .loop .i + k) (a .piece .now))) (c .xor-part .ensures)
+          ∙ ap (λ (n : ℕ). absorbBytes (lastRounds (a .rounds)) (a .rate) (record { value = puts xorByte (r .last .0) (r .result) (take n (drop (l .loop .i) (a .piece .now))); position = r .result + k }) (drop (l .loop .i + k) (a .piece .now))) e
+          ∙ absorb-part (lastRounds (a .rounds)) (a .rate) (record { value = l .loop .lanes; position = l .loop .p }) (r .last .0) (r .result) (r .ensures .1) (r .ensures .0) (a .piece .now) (l .loop .i) k (omega arith) (omega arith) (omega arith)
           ∙ l .loop .inv .2,
     )
 
@@ -78,7 +78,7 @@ returns : tie.Need-returns Inv-loop μ-loop
 returns c =
     let l = c .before in
     let a = l .before .before .args in
-    sym (absorb-done permuted (a .rate) (record { value = l .loop .lanes; position = l .loop .p }) (a .piece .now) (l .loop .i) (c .loop-test .left)) ∙ l .loop .inv .2
+    sym (absorb-done (lastRounds (a .rounds)) (a .rate) (record { value = l .loop .lanes; position = l .loop .p }) (a .piece .now) (l .loop .i) (c .loop-test .left)) ∙ l .loop .inv .2
 
 pub absorb-blocks-spec : {M : Type 1} → statement M
 absorb-blocks-spec =

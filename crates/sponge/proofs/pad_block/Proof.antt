@@ -3,7 +3,7 @@ use mathlib.Core.List.{List}
 use Prim.Native.Nat.{ℕ, _-_}
 use native.Mathlib.Omega.{arith}
 use borrow.Author.Needs.{needs}
-use Rattle.keccak.specs.Permutation.{permuted}
+use Rattle.keccak.specs.Permutation.{lastRounds}
 use Rattle.sponge.specs.Published.{xorByte}
 use Rattle.sponge.proofs.Blocks.{pad-part}
 use Rattle.sponge.proofs.pad_block.Statement.{statement}
@@ -29,9 +29,9 @@ returns c =
     let a = c .before .before .before .before .before .before .before .before .args in
     let q = c .before .before .before .before .before .before .next-position in
     ap (λ (m : List ℕ). record { value = m; position = 0 })
-    (c .permute-in-place .ensures
-    ∙ ap permuted (c .before .before .xor-byte2 .ensures ∙ ap (λ (m : List ℕ). xorByte m (a .rate - 1) 0x80) (c .before .before .before .before .xor-byte .ensures)))
-    ∙ pad-part permuted (a .rate) (record { value = a .lanes .now; position = a .position }) (q .last .0) (q .result) (q .ensures .1) (q .ensures .0) (a .last)
+    (c .permute-in-place .ensures .1
+    ∙ ap (lastRounds (a .rounds)) (c .before .before .xor-byte2 .ensures ∙ ap (λ (m : List ℕ). xorByte m (a .rate - 1) 0x80) (c .before .before .before .before .xor-byte .ensures)))
+    ∙ pad-part (lastRounds (a .rounds)) (a .rate) (record { value = a .lanes .now; position = a .position }) (q .last .0) (q .result) (q .ensures .1) (q .ensures .0) (a .last)
 
 pub pad-block-spec : {M : Type 1} → statement M
 pad-block-spec =

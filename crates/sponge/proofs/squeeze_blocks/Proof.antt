@@ -4,7 +4,7 @@ use Prim.Native.Nat.{ℕ, _+_, _-_, _≤_, _<_}
 use native.Mathlib.Omega.{arith}
 use lib.ListN.{length, take, drop, length-drop}
 use lib.Seq.{length-take-le}
-use Rattle.keccak.specs.Permutation.{permuted}
+use Rattle.keccak.specs.Permutation.{lastRounds}
 use Rattle.sponge.specs.Published.{bytesFrom}
 use Rattle.sponge.specs.Model.{Sponge, squeezeBytes, afterBytes}
 use Rattle.sponge.proofs.Published.{squeeze-add, after-add, length-squeeze}
@@ -14,13 +14,13 @@ use Rattle.sponge.proofs.squeeze_blocks.Statement.{statement}
 use Rattle.sponge.proofs.squeeze_blocks.Tie as tie
 
 abbrev Inv-loop : tie.InvT-loop
-Inv-loop lanes₀ position rate out₀ p₀ i₀ lanes out p i =
+Inv-loop lanes₀ position rate rounds out₀ p₀ i₀ lanes out p i =
     (i ≤ length out) × (length out ≡ length out₀) × (p ≤ rate)
-    × (record { value = lanes; position = p } ≡ afterBytes permuted rate i (record { value = lanes₀; position = p₀ }))
-    × (take i out ≡ squeezeBytes permuted rate i (record { value = lanes₀; position = p₀ }))
+    × (record { value = lanes; position = p } ≡ afterBytes (lastRounds rounds) rate i (record { value = lanes₀; position = p₀ }))
+    × (take i out ≡ squeezeBytes (lastRounds rounds) rate i (record { value = lanes₀; position = p₀ }))
 
 abbrev μ-loop : tie.MeasureT-loop
-μ-loop lanes₀ position rate out₀ p₀ i₀ lanes out p i = length out₀ - i
+μ-loop lanes₀ position rate rounds out₀ p₀ i₀ lanes out p i = length out₀ - i
 
 abbrev first : tie.At-loop Inv-loop μ-loop → Sponge
 first l = record { value = l .before .before .args .lanes .now; position = l .before .before .args .position }
@@ -68,6 +68,7 @@ loop-again : tie.Need-loop-again Inv-loop μ-loop
 loop-again c =
     let l = c .before .before .before .before .before .before .before .before .before in
     let rate = l .before .before .args .rate in
+    let rounds = l .before .before .args .rounds in
     let i = l .loop .i in
     let q = c .before .before .before .before .before .before .next-position in
     let k = c .before .before .before .before .before .least .result in
@@ -80,12 +81,12 @@ loop-again c =
       omega arith,
       omega arith,
       room,
-      sym (after-part permuted rate s (q .last .0) (q .result) (q .ensures .1) (q .ensures .0) k g room) ∙ ap (afterBytes permuted rate k) (l .loop .inv .3) ∙ sym (after-add permuted rate (omega arith) i k (first l)),
+      sym (after-part (lastRounds rounds) rate s (q .last .0) (q .result) (q .ensures .1) (q .ensures .0) k g room) ∙ ap (afterBytes (lastRounds rounds) rate k) (l .loop .inv .3) ∙ sym (after-add (lastRounds rounds) rate (omega arith) i k (first l)),
       ap (λ (n : ℕ). take (i + k) (take i (l .loop .out) ++ (r .last .1 .1 .0 ++ drop n (drop i (l .loop .out))))) e
-          ∙ put-part (λ n. squeezeBytes permuted rate n (first l)) (l .loop .out) (r .last .1 .1 .0) (squeezeBytes permuted rate k (afterBytes permuted rate i (first l))) i k (omega arith) (l .loop .inv .4)
-          (r .ensures ∙ ap (bytesFrom (q .last .0) (q .result)) m ∙ sym (squeeze-part permuted rate s (q .last .0) (q .result) (q .ensures .1) (q .ensures .0) k g room) ∙ ap (squeezeBytes permuted rate k) (l .loop .inv .3))
-          (length-squeeze permuted rate (omega arith) k (afterBytes permuted rate i (first l)))
-          (sym (squeeze-add permuted rate (omega arith) i k (first l))),
+          ∙ put-part (λ n. squeezeBytes (lastRounds rounds) rate n (first l)) (l .loop .out) (r .last .1 .1 .0) (squeezeBytes (lastRounds rounds) rate k (afterBytes (lastRounds rounds) rate i (first l))) i k (omega arith) (l .loop .inv .4)
+          (r .ensures ∙ ap (bytesFrom (q .last .0) (q .result)) m ∙ sym (squeeze-part (lastRounds rounds) rate s (q .last .0) (q .result) (q .ensures .1) (q .ensures .0) k g room) ∙ ap (squeezeBytes (lastRounds rounds) rate k) (l .loop .inv .3))
+          (length-squeeze (lastRounds rounds) rate (omega arith) k (afterBytes (lastRounds rounds) rate i (first l)))
+          (sym (squeeze-add (lastRounds rounds) rate (omega arith) i k (first l))),
     )
 
 same-length : tie.Need-same-length Inv-loop μ-loop
@@ -96,8 +97,8 @@ returns c =
     let l = c .before in
     let a = l .before .before .args in
     let n : l .loop .i ≡ length (a .out .now) = omega arith in (
-      write-all (λ n. squeezeBytes permuted (a .rate) n (first l)) (l .loop .out) (l .loop .i) (length (a .out .now)) (l .loop .inv .0) (c .loop-test .left) (l .loop .inv .1) (l .loop .inv .4),
-      l .loop .inv .3 ∙ ap (λ (k : ℕ). afterBytes permuted (a .rate) k (first l)) n,
+      write-all (λ n. squeezeBytes (lastRounds (a .rounds)) (a .rate) n (first l)) (l .loop .out) (l .loop .i) (length (a .out .now)) (l .loop .inv .0) (c .loop-test .left) (l .loop .inv .1) (l .loop .inv .4),
+      l .loop .inv .3 ∙ ap (λ (k : ℕ). afterBytes (lastRounds (a .rounds)) (a .rate) k (first l)) n,
     )
 
 pub squeeze-blocks-spec : {M : Type 1} → statement M

@@ -61,7 +61,7 @@ returns-2 c =
     let s = c .before .before .squeeze in
     let n = length (a .message .now) / 8192 in
     let row = hash-row (a .rate) (b .pre .0) (b .pre .1) (a .chaining) (a .message .now) (a .customization .now) (a .out .now) (c .before .before .before .before .before .finalize .last .1 .1 .0) n
-    (treeOf (rest .last .1 .1 .0) (rest .last .1 .1 .1 .0) (rest .result)) (record { status = s .result .status; state = record { value = s .last .0; position = s .result .position } }) (s .last .1 .1 .1 .0) (rw chunk-is (omega arith))
+    (treeOf (rest .last .1 .1 .0) (rest .last .1 .1 .1 .0) (rest .result)) (record { status = s .result .status; state = record { value = s .last .0; position = s .result .position } }) (s .last .1 .1 .1 .1 .0) (rw chunk-is (omega arith))
     (rest .ensures .1 .1
     ∙ ap (λ (t : At Tree). absorbTree (a .rate) (a .chaining) t (take (length (a .message .now) - n * 8192) (drop (n * 8192) (a .message .now))))
     (chunks-left (a .rate) (b .pre .0) (b .pre .1) (a .chaining) (chunks .last .1 .1 .0) (chunks .result) n (a .message .now) (chunks .ensures .1))

@@ -22,7 +22,7 @@ returns c =
     let pads = c .before .before .before .before .before .before .before .before .pad in
     let squeezes = c .before .before .before .before .before .squeeze in
     value-row (a .args .rate) (a .pre .0) (a .pre .1) (record { value = a .args .leaf .now; position = a .args .reached }) (record { value = a .args .node .now; position = a .args .position })
-    intermediateDomain (a .args .value .now) (squeezes .last .1 .1 .1 .0)
+    intermediateDomain (a .args .value .now) (squeezes .last .1 .1 .1 .1 .0)
     (record { status = pads .result .status; state = record { value = pads .last .0; position = pads .result .position } })
     (record { status = c .absorb .result .status; state = record { value = c .absorb .last .0; position = c .absorb .result .position } })
     (a .pre .3) (a .pre .2) (pads .ensures) (squeezes .ensures .1) (c .absorb .ensures)

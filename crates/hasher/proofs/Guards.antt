@@ -1,0 +1,63 @@
+-- The two cases of the numbers that a call is given: a rate and a number of rounds, or not.
+-- Assumes nothing.
+use mathlib.Core.Path.{_≡_, refl, ap}
+use mathlib.Core.List.{List}
+use Prim.Native.Nat.{ℕ, zero, suc, _≤_, _<_}
+use Rattle.keccak.specs.Permutation.{roundsStatus}
+use Rattle.sponge.specs.Status.{firstOf}
+use Rattle.sponge.specs.Transcript.{Call, Call.absorb, Call.customize, Call.finalize, Call.finish, Call.squeeze, lent}
+use Rattle.sponge.specs.Runs.{perform}
+use Rattle.sponge.specs.Model.{callStatus}
+use Rattle.sponge.proofs.Valid.{taken-fits, taken-rounds}
+use Rattle.hasher.specs.Function.{Function, rules}
+use Rattle.hasher.specs.Model.{machine, guarded, performOf, writtenOf, answerOf, outputOf, plain, ending, mapCall, answer, written}
+use Rattle.hasher.specs.declared.Run.{Run}
+use Rattle.hasher.specs.declared.Answer.{Answer}
+
+pub guard-refused : (n : ℕ) → (n ≡ 0 → ⊥) → (a : Answer) (r : Run) → record { run = r; status = n } ≡ guarded n a r
+guard-refused zero h a r = absurd (h refl)
+guard-refused (suc n) h a r = refl
+
+pub lent-refused : (n : ℕ) → (n ≡ 0 → ⊥) → (bytes out : List ℕ) → out ≡ lent n bytes out
+lent-refused zero h bytes out = absurd (h refl)
+lent-refused (suc n) h bytes out = refl
+
+pub numbers-fit : (rounds rate : ℕ) → callStatus rounds rate 0 ≡ 0 → (0 < rate) × (rate ≤ 200) × (roundsStatus rounds ≡ 0)
+numbers-fit rounds rate e = let f = taken-fits rounds rate 0 e in (f .1, f .2, taken-rounds rounds rate 0 e)
+
+module _ {A : Type 0} (F : Function A) where
+  pub answer-refused : (r : Run) (c : Call A) (n : ℕ) → (n ≡ 0 → ⊥) → n ≡ callStatus (F .rounds) (F .rate) 0 → record { run = r; status = n } ≡ answerOf F r c
+  unfolding answerOf
+  answer-refused r c n h e = rw (← e) (guard-refused n h (performOf F r c) r)
+
+  pub output-refused : (r : Run) (out : List ℕ) (n : ℕ) → (n ≡ 0 → ⊥) → n ≡ callStatus (F .rounds) (F .rate) 0 → out ≡ outputOf F r out
+  unfolding outputOf
+  output-refused r out n h e = rw (← e) (lent-refused n h (writtenOf F r out) out)
+
+  module _ (taken : callStatus (F .rounds) (F .rate) 0 ≡ 0) where
+    pub answer-is : (r : Run) (c : Call A) → performOf F r c ≡ answerOf F r c
+    unfolding answerOf
+    answer-is r c = rw taken
+
+    pub output-is : (r : Run) (out : List ℕ) → writtenOf F r out ≡ outputOf F r out
+    unfolding outputOf
+    output-is r out = rw taken
+
+-- ---- the code's calls, which see three numbers and an ending, are the function's
+
+module _ {A : Type 0} (F : Function A) where
+  same-performed : (r : Run) (c : Call A) → performOf (plain F) r (mapCall (ending F) c) ≡ performOf F r c
+  unfolding performOf perform rules machine
+  same-performed r (absorb p) = refl
+  same-performed r (customize p) = refl
+  same-performed r (finalize a) = refl
+  same-performed r finish = refl
+  same-performed r (squeeze k) = refl
+
+  pub answer-same : (r : Run) (c : Call A) → answer F r c ≡ answerOf F r c
+  unfolding answerOf
+  answer-same r c = ap (λ (a : Answer). guarded (callStatus (F .rounds) (F .rate) 0) a r) (same-performed r c)
+
+  pub written-same : (r : Run) (out : List ℕ) → written F r out ≡ outputOf F r out
+  unfolding outputOf writtenOf perform rules machine
+  written-same r out = refl

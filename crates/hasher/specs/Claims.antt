@@ -1,0 +1,121 @@
+-- What is claimed of runs as the code holds them, for every function that meets `Meets`: of `answer` and `written`, which the contracts cite, and of
+-- lists of calls from `freshOf`. proofs/Claims.antt fills `Claims`; each function above has it at its own numbers.
+-- Assumes nothing.
+use mathlib.Core.Path.{_≡_}
+use mathlib.Core.List.{List, [], _++_}
+use Prim.Native.Nat.{ℕ, suc, _+_, _^_, _≤_, _<_}
+use lib.ListN.{length, take}
+use Rattle.sponge.specs.Status.{unreachable}
+use Rattle.sponge.specs.Callable.{Slice, All}
+use Rattle.sponge.specs.Transcript.{Call, Call.absorb, Call.customize, Call.finalize, Call.finish, Call.squeeze, phaseNumber, Transcript, freshTranscript, transcribe}
+use Rattle.sponge.specs.Transcript as transcript
+use Rattle.sponge.specs.Model.{callStatus}
+use Rattle.sponge.specs.Runs.{runOf}
+use Rattle.sponge.specs.Streaming.{History, history, joined}
+use Rattle.hasher.specs.Function.{Function, output, rules}
+use Rattle.hasher.specs.Model.{machine, held, freshOf, answer, written, replyOf, oneGoStatus, oneGoOutput}
+use Rattle.hasher.specs.declared.Run.{Run}
+
+module _ {A : Type 0} (F : Function A) where
+  -- what a function owes: a rate and a number of rounds that are taken, an argument of the close that is and whose byte is one, that no argument
+  -- answers 5, and a read limit that a word holds
+  pub record Meets : Type 0 where
+    pub taken : callStatus (F .rounds) (F .rate) 0 ≡ 0
+    pub some : A
+    pub some-taken : F .argument some ≡ 0
+    pub some-byte : F .byte some < 256
+    pub no-five : (a : A) → F .argument a ≡ unreachable → ⊥
+    pub limit-fits : F .outputLimit < 2 ^ 64
+
+  -- ---- lists of calls from a fresh run
+
+  -- by the transcript, document 01's book, and by the code's runs
+  abbrev pub told : List (Call A) → History (Transcript A)
+  told cs = history (transcribe (rules F)) freshTranscript cs
+
+  abbrev pub ran : List (Call A) → History Run
+  ran cs = history (replyOf F) freshOf cs
+
+  -- the list theorem: each status and the bytes of each call, refused ones too, are the transcript's; the run left is the one that the transcript
+  -- tells of, with its phase and totals; the bytes joined are the first bytes of the published output
+  pub record Streaming (cs : List (Call A)) : Type 0 where
+    pub statuses : ran cs .statuses ≡ told cs .statuses
+    pub bytes : ran cs .bytes ≡ told cs .bytes
+    pub run : ran cs .left ≡ held (runOf (rules F) (machine F) (told cs .left))
+    pub phase : ran cs .left .phase ≡ phaseNumber (told cs .left .phase)
+    pub absorbed : ran cs .left .absorbed ≡ length (told cs .left .absorbed)
+    pub squeezed : ran cs .left .squeezed ≡ told cs .left .squeezed
+    pub output : joined (ran cs .bytes) ≡ transcript.outputOf (rules F) (told cs .left) (told cs .left .squeezed)
+
+  -- ---- one call, on any run
+
+  pub record Calls : Type 0 where
+    -- a refused call hands the run back, and leaves the lent output as it was
+    pub refused : (r : Run) (c : Call A) (n : ℕ) → answer F r c .status ≡ suc n → answer F r c .run ≡ r
+    pub refused-output : (r : Run) (out : List ℕ) (n : ℕ) → answer F r (squeeze (length out)) .status ≡ suc n → written F r out ≡ out
+    -- a done squeeze leaves in the lent output the bytes that the list theorem speaks of
+    pub done-output : (r : Run) (out : List ℕ) → answer F r (squeeze (length out)) .status ≡ 0 → written F r out ≡ replyOf F r (squeeze (length out)) .bytes
+    -- a done absorb took every byte of its piece
+    pub absorb-grows : (r : Run) (p : List ℕ) → answer F r (absorb p) .status ≡ 0 → answer F r (absorb p) .run .absorbed ≡ r .absorbed + length p
+
+  -- ---- calls in a row, on any run, where all are answered done
+
+  pub record Joins : Type 0 where
+    -- a and then b are a joined to b; and what is taken joined is taken in two
+    pub absorb-absorb : (r : Run) (a b : List ℕ) → answer F r (absorb a) .status ≡ 0 → answer F (answer F r (absorb a) .run) (absorb b) .status ≡ 0
+        → answer F (answer F r (absorb a) .run) (absorb b) ≡ answer F r (absorb (a ++ b))
+    pub absorb-parts : (r : Run) (a b : List ℕ) → answer F r (absorb (a ++ b)) .status ≡ 0
+        → answer F (answer F r (absorb a) .run) (absorb b) ≡ answer F r (absorb (a ++ b))
+    pub absorb-nothing : (r : Run) → answer F r (absorb []) .status ≡ 0 → answer F r (absorb []) .run ≡ r
+    -- x and then y, lent outputs, are filled as both in one are; and what is given at once is given in two
+    pub squeeze-squeeze : (r : Run) (x y : List ℕ) → answer F r (squeeze (length x)) .status ≡ 0 → answer F (answer F r (squeeze (length x)) .run) (squeeze (length y)) .status ≡ 0
+        → (answer F (answer F r (squeeze (length x)) .run) (squeeze (length y)) ≡ answer F r (squeeze (length (x ++ y))))
+        × (written F r x ++ written F (answer F r (squeeze (length x)) .run) y ≡ written F r (x ++ y))
+    pub squeeze-parts : (r : Run) (x y : List ℕ) → answer F r (squeeze (length (x ++ y))) .status ≡ 0
+        → (answer F (answer F r (squeeze (length x)) .run) (squeeze (length y)) ≡ answer F r (squeeze (length (x ++ y))))
+        × (written F r x ++ written F (answer F r (squeeze (length x)) .run) y ≡ written F r (x ++ y))
+    pub squeeze-nothing : (r : Run) → answer F r (squeeze 0) .status ≡ 0 → answer F r (squeeze 0) .run ≡ r
+
+  -- ---- status 5
+
+  -- a call that a caller can make: there is no customization phase, so no call of one
+  abbrev pub Callable : Call A → Type 0
+  Callable (absorb p) = Slice p
+  Callable (customize p) = ⊥
+  Callable (finalize a) = F .byte a < 256
+  Callable finish = ⊥
+  Callable (squeeze k) = k < 2 ^ 64
+
+  -- a list of such calls leaves r's phase, totals and position
+  pub record Reached (r : Run) : Type 0 where
+    pub calls : List (Call A)
+    pub callable : All Callable calls
+    pub phase-is : ran calls .left .phase ≡ r .phase
+    pub absorbed-is : ran calls .left .absorbed ≡ r .absorbed
+    pub squeezed-is : ran calls .left .squeezed ≡ r .squeezed
+    pub position-is : ran calls .left .position ≡ r .position
+
+  -- 5 exactly where there is none
+  pub record Five : Type 0 where
+    pub five-unreached : (r : Run) (c : Call A) → answer F r c .status ≡ unreachable → Reached r → ⊥
+    pub unreached-five : (r : Run) (c : Call A) → (Reached r → ⊥) → answer F r c .status ≡ unreachable
+
+  -- ---- in one go
+
+  -- a done call leaves the published output in the lent slice, a refused one what was there
+  pub record OneGo : Type 0 where
+    pub done-output : (m : List ℕ) (a : A) (out : List ℕ) → oneGoStatus F (length m) a (length out) ≡ 0 → oneGoOutput F m a out ≡ output F m a (length out)
+    pub refused-output : (m : List ℕ) (a : A) (out : List ℕ) (n : ℕ) → oneGoStatus F (length m) a (length out) ≡ suc n → oneGoOutput F m a out ≡ out
+
+  -- ---- all of it
+
+  pub record Claims : Type 0 where
+    pub streaming : (cs : List (Call A)) → Streaming cs
+    -- two lists that leave equal transcripts leave the same run
+    pub equal-transcripts : (cs ds : List (Call A)) → told cs .left ≡ told ds .left → ran cs .left ≡ ran ds .left
+    pub calls : Calls
+    pub joins : Joins
+    pub five : Five
+    pub one-go : OneGo
+    -- a shorter output is the first bytes of a longer one
+    pub shorter : (m : List ℕ) (a : A) (k n : ℕ) → k ≤ n → output F m a k ≡ take k (output F m a n)

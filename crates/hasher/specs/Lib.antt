@@ -1,0 +1,3 @@
+pub mod Function
+pub mod Model
+pub mod Claims

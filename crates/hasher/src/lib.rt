@@ -1,0 +1,174 @@
+// A hasher: the sponge as a run that is absorbed into, finalized and squeezed, and in one go. What the functions above differ in, the rate, the
+// rounds, the last byte and the most bytes of output, each call is given.
+mod calls;
+
+ghost use mathlib.Core.Path.{_≡_};
+ghost use lib.ListN.{length};
+ghost use Rattle.sponge.specs.Transcript.{Call};
+ghost use Rattle.hasher.specs.Model.{freshOf, numbers, answerOf, outputOf, hashAtStatus, hashAtOutput};
+use sponge::status;
+
+// The most bytes of a message.
+pub const MESSAGE_LIMIT: u64 = 17179869183;
+
+// The most bytes of output, where a function has no limit of its own.
+pub const LONG_OUTPUT: u64 = 4294967295;
+
+// A run: document 01's fixed-size state with its place, phase (0 absorbing, 1 squeezing), bytes fed and bytes read.
+pub struct Run {
+    pub lanes: [u64; 25],
+    pub position: usize,
+    pub phase: u8,
+    pub absorbed: u64,
+    pub squeezed: u64,
+}
+
+// What a call leaves of a run beside its lanes, and its status.
+struct Moved {
+    status: u8,
+    position: usize,
+    phase: u8,
+    absorbed: u64,
+    squeezed: u64,
+}
+
+// What a call answers: the status, and the run, which is the one given where the status is not 0.
+pub struct Answer {
+    pub run: Run,
+    pub status: u8,
+}
+
+// A fresh run: nothing absorbed, nothing squeezed.
+pub fn fresh() -> Run
+    ensures { λ r. ⌜ r ≡ freshOf ⌝ }
+{
+    let lanes = [0u64; 25];
+    Run {
+        lanes,
+        position: 0,
+        phase: 0,
+        absorbed: 0,
+        squeezed: 0,
+    }
+}
+
+// Absorbs a piece of the message.
+pub fn absorb(rate: usize, rounds: usize, limit: u64, run: Run, piece: &[u8]) -> Answer
+    ensures { λ r. ⌜ r ≡ answerOf (numbers rate rounds limit) run (Call.absorb (now (piece .entry))) ⌝ }
+{
+    let refusal = sponge::call_status(rounds, rate, 0);
+    if refusal != status::DONE {
+        return Answer {
+            run,
+            status: refusal,
+        };
+    }
+    let mut next = run;
+    let moved = calls::absorb(
+        rate,
+        rounds,
+        limit,
+        &mut next.lanes,
+        run.position,
+        run.phase,
+        run.absorbed,
+        run.squeezed,
+        piece,
+    );
+    next.position = moved.position;
+    next.phase = moved.phase;
+    next.absorbed = moved.absorbed;
+    next.squeezed = moved.squeezed;
+    Answer {
+        run: next,
+        status: moved.status,
+    }
+}
+
+// Ends the message with the byte `last`, whose own status is `refusal`.
+pub fn finalize(rate: usize, rounds: usize, limit: u64, run: Run, refusal: u8, last: u8) -> Answer
+    ensures { λ r. ⌜ r ≡ answerOf (numbers rate rounds limit) run (Call.finalize (record { byte = last; status = refusal })) ⌝ }
+{
+    let number = sponge::call_status(rounds, rate, 0);
+    if number != status::DONE {
+        return Answer {
+            run,
+            status: number,
+        };
+    }
+    let mut next = run;
+    let moved = calls::finalize(
+        rate,
+        rounds,
+        limit,
+        &mut next.lanes,
+        run.position,
+        run.phase,
+        run.absorbed,
+        run.squeezed,
+        refusal,
+        last,
+    );
+    next.position = moved.position;
+    next.phase = moved.phase;
+    next.absorbed = moved.absorbed;
+    next.squeezed = moved.squeezed;
+    Answer {
+        run: next,
+        status: moved.status,
+    }
+}
+
+// Squeezes as many bytes of output as `out` holds.
+pub fn squeeze(rate: usize, rounds: usize, limit: u64, run: Run, out: &mut [u8]) -> Answer
+    ensures { λ r. ⌜ r ≡ answerOf (numbers rate rounds limit) run (Call.squeeze (length (now (out .entry)))) ⌝ }
+    ensures { λ r. ⌜ now (out .exit) ≡ outputOf (numbers rate rounds limit) run (now (out .entry)) ⌝ }
+{
+    let refusal = sponge::call_status(rounds, rate, 0);
+    if refusal != status::DONE {
+        return Answer {
+            run,
+            status: refusal,
+        };
+    }
+    let mut next = run;
+    let moved = calls::squeeze(
+        rate,
+        rounds,
+        limit,
+        &mut next.lanes,
+        run.position,
+        run.phase,
+        run.absorbed,
+        run.squeezed,
+        out,
+    );
+    next.position = moved.position;
+    next.phase = moved.phase;
+    next.absorbed = moved.absorbed;
+    next.squeezed = moved.squeezed;
+    Answer {
+        run: next,
+        status: moved.status,
+    }
+}
+
+// In one go: the message, the byte that follows it, with its own status, and as many bytes of output as `out` holds.
+pub fn hash(
+    rate: usize,
+    rounds: usize,
+    limit: u64,
+    message: &[u8],
+    refusal: u8,
+    last: u8,
+    out: &mut [u8],
+) -> u8
+    ensures { λ r. ⌜ r ≡ hashAtStatus rate rounds limit (length (now (message .entry))) refusal (length (now (out .entry))) ⌝ }
+    ensures { λ r. ⌜ now (out .exit) ≡ hashAtOutput rate rounds limit (now (message .entry)) refusal last (now (out .entry)) ⌝ }
+{
+    let number = sponge::call_status(rounds, rate, 0);
+    if number != status::DONE {
+        return number;
+    }
+    calls::hash(rate, rounds, limit, message, refusal, last, out)
+}
