@@ -1,12 +1,12 @@
--- The hashers of the benchmarks and their laws of calls in a row: one for every function of `hasher`, of which TurboSHAKE128 with D = 1F is an
--- instance, and KT128 with C empty.
+-- The hashers of the benchmarks and their laws of calls in a row: one for every function of `hasher`, of which TurboSHAKE128 with D = 1F,
+-- SHA3-256 and SHAKE128 are instances, and KT128 with C empty.
 -- Assumes nothing.
-use mathlib.Core.Path.{_≡_, ap, _∙_}
+use mathlib.Core.Path.{_≡_, refl, ap, _∙_}
 use mathlib.Core.List.{List, []}
 use Prim.Native.Nat.{ℕ, _<_}
 use native.Mathlib.Omega.{arith}
 use lib.ListN.{length}
-use Rattle.hasher.specs.Function.{Function, output}
+use Rattle.hasher.specs.Function.{Function, longOutput, output}
 use Rattle.hasher.specs.Claims.{Meets}
 use Rattle.hasher.specs.Model.{freshOf, answer, written}
 use Rattle.hasher.specs.declared.Run.{Run}
@@ -15,6 +15,9 @@ use Rattle.hasher.proofs.Pieces as pieces
 use Rattle.turboshake.specs.Published.{turboshake128}
 use Rattle.turboshake.specs.Transcript as turboshake
 use Rattle.turboshake.proofs.Claims as turboshake-claims
+use Rattle.fips202.specs.Published.{sha3, shake}
+use Rattle.fips202.specs.Transcript as fips
+use Rattle.fips202.proofs.Claims as fips-claims
 use Rattle.kangarootwelve.specs.Transcript as kt-transcript
 use Rattle.kangarootwelve.specs.Model as kt
 use Rattle.kangarootwelve.specs.declared.Run as kt-run
@@ -60,6 +63,26 @@ turboHasher =
     (turboshake-claims.domain-taken 0x1F (omega arith) (omega arith))
     (λ m n. turboshake128 m 0x1F n)
     (λ m n. turboshake-claims.claims128 .published m 0x1F n)
+
+abbrev pub sha3Hasher : Hasher (Unit {0}) Run Answer
+sha3Hasher =
+    hasherOf
+    fips.sha3-256
+    (fips-claims.meets 136 0x06 32 (omega arith) (omega arith) (omega arith) (omega arith))
+    tt
+    refl
+    (sha3 32)
+    (fips-claims.claims .sha3-256 .published)
+
+abbrev pub shakeHasher : Hasher (Unit {0}) Run Answer
+shakeHasher =
+    hasherOf
+    fips.shake128
+    (fips-claims.meets 168 0x1F longOutput (omega arith) (omega arith) (omega arith) (omega arith))
+    tt
+    refl
+    (shake 16)
+    (fips-claims.claims .shake128 .published)
 
 -- ---- KT128
 

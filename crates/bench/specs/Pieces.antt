@@ -9,6 +9,7 @@ use Rattle.sponge.specs.Status.{done, inputTooLong, outputTooLong}
 use Rattle.sponge.specs.Transcript.{lent}
 use Rattle.hasher.specs.Function.{messageLimit, longOutput}
 use Rattle.turboshake.specs.Published.{turboshake128}
+use Rattle.fips202.specs.Published.{sha3, shake}
 use Rattle.kangarootwelve.specs.Published.{kt128}
 
 -- a function that is timed: its published output, of the message and the number of bytes asked, and the most bytes that are read
@@ -23,6 +24,14 @@ turboshakeWith1F = record { output = λ m n. turboshake128 m 0x1F n; limit = lon
 -- KT128 with C empty
 abbrev pub ktWithNone : Timed
 ktWithNone = record { output = λ m n. kt128 m [] n; limit = longOutput }
+
+-- SHA3-256, whose digest has 32 bytes
+abbrev pub sha3-256 : Timed
+sha3-256 = record { output = sha3 32; limit = 32 }
+
+-- SHAKE128, of a strength of 16 bytes
+abbrev pub shake128 : Timed
+shake128 = record { output = shake 16; limit = longOutput }
 
 -- pieces of no bytes: a number of the benchmark's own
 abbrev pub badStep : ℕ

@@ -1,4 +1,5 @@
 // What the benchmarks of bench/ call through the C calling convention.
+mod fips;
 mod kt;
 
 ghost use mathlib.Core.Path.{_≡_};
