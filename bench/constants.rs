@@ -1,6 +1,18 @@
-//! The constants of Keccak's last twelve rounds.
+//! The constants of Keccak's rounds.
 
-pub const ROUND_CONSTANTS: [u64; 12] = [
+const ROUND_CONSTANTS: [u64; 24] = [
+    0x0000000000000001,
+    0x0000000000008082,
+    0x800000000000808A,
+    0x8000000080008000,
+    0x000000000000808B,
+    0x0000000080000001,
+    0x8000000080008081,
+    0x8000000000008009,
+    0x000000000000008A,
+    0x0000000000000088,
+    0x0000000080008009,
+    0x000000008000000A,
     0x000000008000808B,
     0x800000000000008B,
     0x8000000000008089,
@@ -14,3 +26,14 @@ pub const ROUND_CONSTANTS: [u64; 12] = [
     0x0000000080000001,
     0x8000000080008008,
 ];
+
+/// Those of the last N of the 24 rounds.
+pub const fn last_constants<const N: usize>() -> [u64; N] {
+    let mut last = [0; N];
+    let mut i = 0;
+    while i < N {
+        last[i] = ROUND_CONSTANTS[24 - N + i];
+        i += 1;
+    }
+    last
+}

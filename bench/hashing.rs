@@ -6,7 +6,7 @@ pub type Digest = [u8; 32];
 /// How the message is absorbed: in pieces of so many bytes, or in one go.
 pub type Way = Option<usize>;
 
-/// The two ways of a proved hash: crates/bench/src/lib.rt and kt.rt, where a slice passes as a pointer and a length.
+/// The two ways of a proved hash: crates/bench/src, where a slice passes as a pointer and a length.
 pub type Pieces = unsafe extern "C" fn(*const u8, usize, usize, *mut u8, usize) -> u8;
 pub type OneGo = unsafe extern "C" fn(*const u8, usize, *mut u8, usize) -> u8;
 
@@ -14,6 +14,9 @@ pub enum Hash {
     Proved(Pieces, OneGo),
     Rust(fn(&[u8], Way, &mut Digest)),
 }
+
+/// A hash by its name, and the versions of it.
+pub type Function<'a> = (&'a str, &'a [(&'a str, Hash)]);
 
 impl Hash {
     fn call(&self, message: &[u8], way: Way, out: &mut Digest) {
@@ -41,7 +44,7 @@ fn timed(hash: &Hash, message: &[u8], way: Way) -> (f64, Digest) {
     (start.elapsed().as_secs_f64() * 1e3, out)
 }
 
-fn compare(name: &str, versions: &[(&str, Hash)], size: usize, repeats: usize) {
+fn compare(&(name, versions): &Function, size: usize, repeats: usize) {
     let message = pattern(size << 20);
     for way in [Some(4096), Some(7), None] {
         let cut = way.map_or("in one go".into(), |step| format!("in pieces of {step} bytes"));
@@ -57,13 +60,20 @@ fn once(hash: &Hash, way: &str, size: &str) {
     println!("{:02x?}", timed(hash, &message[..size.parse().unwrap()], way).1);
 }
 
-/// Does what the program's words say: `compare`, or a version's name with a way and a length.
-pub fn run(name: &str, versions: &[(&str, Hash)]) {
+fn found<'a, T>(named: &'a [(&str, T)], name: &str) -> &'a T {
+    &named.iter().find(|(n, _)| *n == name).expect("a name").1
+}
+
+/// Does what the program's words say: `compare`, or the name of a version and of its function with a way and a length.
+pub fn run(functions: &[Function]) {
     let words: Vec<String> = std::env::args().skip(1).collect();
     let words: Vec<&str> = words.iter().map(String::as_str).collect();
     match words[..] {
-        ["compare"] => compare(name, versions, 64, 9),
-        [version, way, n] => once(&versions.iter().find(|(v, _)| *v == version).expect("a version's name").1, way, n),
-        _ => panic!("compare | VERSION STEP|one N"),
+        ["compare"] => functions.iter().for_each(|function| compare(function, 64, 9)),
+        [version, function, way, n] => {
+            let versions = *found(functions, function);
+            once(found(versions, version), way, n)
+        }
+        _ => panic!("compare | VERSION FUNCTION STEP|one N"),
     }
 }

@@ -1,9 +1,10 @@
 //! KT128 with an empty customization string in ordinary Rust beside the proved one, in one process.
 //!
-//!   kangarootwelve compare                        64 MiB by each and in each way, alternating: best, median and ratio
-//!   kangarootwelve rattle|before|rust STEP|one N  the first N bytes of 1 MiB by one of them, for an instruction count
+//!   kangarootwelve compare                   64 MiB by each and in each way, alternating: best, median and ratio
+//!   kangarootwelve VERSION KT128 STEP|one N  the first N bytes of 1 MiB by one of them, for an instruction count
 //!
-//! The ways: absorbed in pieces of STEP bytes, or hashed in one go; 32 bytes of output. `compare` first holds the Rust to the draft's vectors.
+//! The versions: rattle, before, rust. The ways: absorbed in pieces of STEP bytes, or hashed in one go; 32 bytes of output. `compare` first
+//! holds the Rust to the draft's vectors.
 mod constants;
 mod hashing;
 mod kt128;
@@ -79,5 +80,5 @@ fn main() {
         ("before", Hash::Proved(before_kt_pieces, before_kt_one_go)),
         ("rust", Hash::Rust(rust)),
     ];
-    hashing::run("KT128", &versions);
+    hashing::run(&[("KT128", &versions)]);
 }

@@ -1,5 +1,7 @@
 //! KT128 in ordinary Rust, in pieces and in one go, over the sponge beside it. It has no limit of its own.
-use crate::sponge::TurboShake128;
+use crate::sponge::Sponge;
+
+type TurboShake128 = Sponge<168, 12>;
 
 pub const CHUNK: usize = 8192;
 const FIRST_CHUNK_END: [u8; 8] = [3, 0, 0, 0, 0, 0, 0, 0];

@@ -1,11 +1,11 @@
-//! Keccak-p[1600, 12] in ordinary Rust, the lanes in locals.
-use crate::constants::ROUND_CONSTANTS;
+//! Keccak-p[1600, ROUNDS], the last ROUNDS of the 24 rounds, in ordinary Rust, the lanes in locals.
+use crate::constants::last_constants;
 
-pub fn permute(lanes: &mut [u64; 25]) {
+pub fn permute<const ROUNDS: usize>(lanes: &mut [u64; 25]) {
     let rot = u64::rotate_left;
     let [mut a0, mut a1, mut a2, mut a3, mut a4, mut a5, mut a6, mut a7, mut a8, mut a9, mut a10, mut a11, mut a12,
         mut a13, mut a14, mut a15, mut a16, mut a17, mut a18, mut a19, mut a20, mut a21, mut a22, mut a23, mut a24] = *lanes;
-    for constant in ROUND_CONSTANTS {
+    for constant in const { last_constants::<ROUNDS>() } {
         let c0 = a0 ^ a5 ^ a10 ^ a15 ^ a20;
         let c1 = a1 ^ a6 ^ a11 ^ a16 ^ a21;
         let c2 = a2 ^ a7 ^ a12 ^ a17 ^ a22;

@@ -8,7 +8,7 @@ mod constants;
 mod lanes;
 mod measure;
 
-use constants::ROUND_CONSTANTS;
+use constants::last_constants;
 use std::time::Instant;
 
 extern "C" {
@@ -19,13 +19,15 @@ extern "C" {
     fn before_permute(lanes: &mut [u64; 25], count: usize);
 }
 
+const ROUNDS: usize = 12;
+
 /// The walk of rho and pi over the lanes: where each lane goes, and by how much it is rotated.
 const TARGETS: [usize; 24] = [10, 7, 11, 17, 18, 3, 5, 16, 8, 21, 24, 4, 15, 23, 19, 13, 12, 2, 20, 14, 22, 9, 6, 1];
 const ROTATIONS: [u32; 24] = [1, 3, 6, 10, 15, 21, 28, 36, 45, 55, 2, 14, 27, 41, 56, 8, 25, 43, 62, 18, 39, 61, 20, 44];
 
 #[inline(never)]
 fn permute(a: &mut [u64; 25]) {
-    for constant in ROUND_CONSTANTS {
+    for constant in const { last_constants::<ROUNDS>() } {
         let mut c = [0u64; 5];
         for x in 0..5 {
             c[x] = a[x] ^ a[x + 5] ^ a[x + 10] ^ a[x + 15] ^ a[x + 20];
@@ -54,7 +56,7 @@ fn permute(a: &mut [u64; 25]) {
 
 #[inline(never)]
 fn permute_locals(lanes: &mut [u64; 25]) {
-    lanes::permute(lanes)
+    lanes::permute::<ROUNDS>(lanes)
 }
 
 fn rust(lanes: &mut [u64; 25], count: usize) {

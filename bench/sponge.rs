@@ -1,25 +1,24 @@
-//! TurboSHAKE128 in ordinary Rust: whole blocks word by word from where they lie, the permutation with its lanes in locals.
+//! The sponge in ordinary Rust, over a rate of whole words and a number of rounds: whole blocks word by word from where they lie, the
+//! permutation with its lanes in locals.
 use crate::lanes::permute;
-
-const RATE: usize = 168;
 
 /// Up to eight bytes as a word, the first the least significant.
 fn word(bytes: &[u8]) -> u64 {
     bytes.iter().rev().fold(0, |w, &b| w << 8 | u64::from(b))
 }
 
-pub struct TurboShake128 {
+pub struct Sponge<const RATE: usize, const ROUNDS: usize> {
     lanes: [u64; 25],
     position: usize,
 }
 
-impl TurboShake128 {
+impl<const RATE: usize, const ROUNDS: usize> Sponge<RATE, ROUNDS> {
     pub fn new() -> Self {
-        TurboShake128 { lanes: [0; 25], position: 0 }
+        Sponge { lanes: [0; 25], position: 0 }
     }
 
     fn permute(&mut self) {
-        permute(&mut self.lanes);
+        permute::<ROUNDS>(&mut self.lanes);
         self.position = 0;
     }
 
@@ -57,13 +56,14 @@ impl TurboShake128 {
             for (lane, bytes) in self.lanes.iter_mut().zip(block.chunks_exact(8)) {
                 *lane ^= u64::from_le_bytes(bytes.try_into().unwrap());
             }
-            permute(&mut self.lanes);
+            permute::<ROUNDS>(&mut self.lanes);
         }
         self.mix(rest);
     }
 
-    pub fn finalize(&mut self, domain: u8) {
-        self.mix(&[domain]);
+    /// Ends the message with the byte `last`: a function's own bits, and the first bit of the padding.
+    pub fn finalize(&mut self, last: u8) {
+        self.mix(&[last]);
         self.lanes[RATE / 8 - 1] ^= 0x80 << 56;
         self.permute();
     }

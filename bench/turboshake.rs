@@ -1,9 +1,9 @@
 //! TurboSHAKE128 with D = 1F in ordinary Rust beside the proved one, in one process.
 //!
-//!   turboshake compare                        64 MiB by each and in each way, alternating: best, median and ratio
-//!   turboshake rattle|before|rust STEP|one N  the first N bytes of 1 MiB by one of them, for an instruction count
+//!   turboshake compare                           64 MiB by each and in each way, alternating: best, median and ratio
+//!   turboshake VERSION TurboSHAKE128 STEP|one N  the first N bytes of 1 MiB by one of them, for an instruction count
 //!
-//! The ways: absorbed in pieces of STEP bytes, or hashed in one go; 32 bytes of output.
+//! The versions: rattle, before, rust. The ways: absorbed in pieces of STEP bytes, or hashed in one go; 32 bytes of output.
 mod constants;
 mod hashing;
 mod lanes;
@@ -11,7 +11,7 @@ mod measure;
 mod sponge;
 
 use hashing::{Digest, Hash, Way};
-use sponge::TurboShake128;
+use sponge::Sponge;
 
 extern "C" {
     fn bench_pieces(message: *const u8, message_len: usize, step: usize, out: *mut u8, out_len: usize) -> u8;
@@ -29,7 +29,7 @@ const DOMAIN: u8 = 0x1F;
 
 #[inline(never)]
 fn rust(message: &[u8], way: Way, out: &mut Digest) {
-    let mut run = TurboShake128::new();
+    let mut run = Sponge::<168, 12>::new();
     match way {
         Some(step) => message.chunks(step).for_each(|piece| run.absorb(piece)),
         None => run.absorb(message),
@@ -45,5 +45,5 @@ fn main() {
         ("before", Hash::Proved(before_pieces, before_one_go)),
         ("rust", Hash::Rust(rust)),
     ];
-    hashing::run("TurboSHAKE128", &versions);
+    hashing::run(&[("TurboSHAKE128", &versions)]);
 }
