@@ -77,9 +77,9 @@ pub fn permute_in_place(lanes: &mut [u64; 25], rounds: usize) -> u8
     if 24 < rounds {
         return TOO_MANY_ROUNDS;
     }
+    let mut a = *lanes;
     // Copied before the loop: read inside it, the table is built on the stack at every turn.
     let constants = ROUND_CONSTANTS;
-    let mut a = *lanes;
     let mut i: usize = 24 - rounds;
     while i < 24 {
         let b = round::round(a, constants[i]);

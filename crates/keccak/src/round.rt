@@ -91,7 +91,7 @@ fn chi(b: Plane) -> Plane
 }
 
 // One round, for the round constant rc. All planes go through pi before the first goes through chi: one by one, the old lanes and the new ones
-// would be held at once.
+// would be held at once. The planes go through chi in the order for which the compiler moves the fewest lanes to and from the stack.
 pub fn round(a: [u64; 25], rc: u64) -> [u64; 25]
     ensures { λ r. ⌜ r ≡ spec.round rc a ⌝ }
 {
@@ -101,11 +101,11 @@ pub fn round(a: [u64; 25], rc: u64) -> [u64; 25]
     let b2 = theta_rho_pi(&a, d, 2);
     let b3 = theta_rho_pi(&a, d, 3);
     let b4 = theta_rho_pi(&a, d, 4);
-    let e0 = chi(b0);
-    let e1 = chi(b1);
+    let e4 = chi(b4);
     let e2 = chi(b2);
     let e3 = chi(b3);
-    let e4 = chi(b4);
+    let e1 = chi(b1);
+    let e0 = chi(b0);
     // Lane (x, y) is lane x - 2 y of e_y.
     [
         e0.0 ^ rc,

@@ -11,10 +11,10 @@ use Rattle.keccak.proofs.permute_in_place.Statement.{statement}
 use Rattle.keccak.proofs.permute_in_place.Tie as tie
 
 abbrev Inv-loop : tie.InvT-loop
-Inv-loop lanes n constants a₀ i₀ a i = (i ≤ 24) × (rounds (drop i roundConstants) a ≡ lastRounds n a₀)
+Inv-loop lanes n a₀ constants i₀ a i = (i ≤ 24) × (rounds (drop i roundConstants) a ≡ lastRounds n a₀)
 
 abbrev μ-loop : tie.MeasureT-loop
-μ-loop lanes n constants a₀ i₀ a i = 24 - i
+μ-loop lanes n a₀ constants i₀ a i = 24 - i
 
 returns : tie.Need-returns Inv-loop μ-loop
 returns c =

@@ -29,11 +29,11 @@ returns c =
     let word : (i : ℕ) → Fits w64 (getD a i 0) = λ i. search (needs, start .good .0) in
     let s : State a = record { lanes = start .good .0 .1 .0 .1; words = λ i. word i .fits } in
     let is = plane-is a s (f .theta-effect .result) in
-    let q0 : c1 .chi .result ≡ plane a 0 = is (p1 .theta-rho-pi .result) (c1 .chi .result) 0 (f .theta-effect .ensures) (p1 .theta-rho-pi .ensures) (c1 .chi .ensures) in
-    let q1 : c2 .chi2 .result ≡ plane a 1 = is (p2 .theta-rho-pi2 .result) (c2 .chi2 .result) 1 (f .theta-effect .ensures) (p2 .theta-rho-pi2 .ensures) (c2 .chi2 .ensures) in
-    let q2 : c3 .chi3 .result ≡ plane a 2 = is (p3 .theta-rho-pi3 .result) (c3 .chi3 .result) 2 (f .theta-effect .ensures) (p3 .theta-rho-pi3 .ensures) (c3 .chi3 .ensures) in
-    let q3 : c4 .chi4 .result ≡ plane a 3 = is (p4 .theta-rho-pi4 .result) (c4 .chi4 .result) 3 (f .theta-effect .ensures) (p4 .theta-rho-pi4 .ensures) (c4 .chi4 .ensures) in
-    let q4 : c5 .chi5 .result ≡ plane a 4 = is (p5 .theta-rho-pi5 .result) (c5 .chi5 .result) 4 (f .theta-effect .ensures) (p5 .theta-rho-pi5 .ensures) (c5 .chi5 .ensures) in
+    let q0 : c5 .chi5 .result ≡ plane a 0 = is (p1 .theta-rho-pi .result) (c5 .chi5 .result) 0 (f .theta-effect .ensures) (p1 .theta-rho-pi .ensures) (c5 .chi5 .ensures) in
+    let q1 : c4 .chi4 .result ≡ plane a 1 = is (p2 .theta-rho-pi2 .result) (c4 .chi4 .result) 1 (f .theta-effect .ensures) (p2 .theta-rho-pi2 .ensures) (c4 .chi4 .ensures) in
+    let q2 : c2 .chi2 .result ≡ plane a 2 = is (p3 .theta-rho-pi3 .result) (c2 .chi2 .result) 2 (f .theta-effect .ensures) (p3 .theta-rho-pi3 .ensures) (c2 .chi2 .ensures) in
+    let q3 : c3 .chi3 .result ≡ plane a 3 = is (p4 .theta-rho-pi4 .result) (c3 .chi3 .result) 3 (f .theta-effect .ensures) (p4 .theta-rho-pi4 .ensures) (c3 .chi3 .ensures) in
+    let q4 : c1 .chi .result ≡ plane a 4 = is (p5 .theta-rho-pi5 .result) (c1 .chi .result) 4 (f .theta-effect .ensures) (p5 .theta-rho-pi5 .ensures) (c1 .chi .ensures) in
     (λ i. state (q0 i) (q1 i) (q2 i) (q3 i) (q4 i) (start .args .rc)) ∙ planes-round a (start .args .rc)
 
 pub round-spec : {M : Type 1} → statement M
