@@ -12,6 +12,7 @@ import one_go
 import reference
 import transcript
 import vectors
+from sponge_functions import TURBOSHAKE
 
 BEFORE = b"\xa5"  # each byte of the program's output buffer before the calls
 CHUNK = reference.CHUNK
@@ -137,10 +138,10 @@ def edges_output():
     its own of ASKED bytes, all A5 before the calls, and prints it after them.
     """
     lines = []
-    for function, rate in (("TurboSHAKE128", 168), ("TurboSHAKE256", 136)):
-        for size, domain, asked in edges_of(rate):
-            status, out = one_go.turboshake(rate, reference.ptn(size), domain, asked)
-            lines += [f"{function} {way} {size} {domain:02x} {asked} {status} {digits_of(out, asked)}" for way in ("one", "cut")]
+    for function in TURBOSHAKE.values():
+        for size, domain, asked in edges_of(function.rate):
+            status, out = one_go.sponge(function, reference.ptn(size), domain, asked)
+            lines += [f"{function.name} {way} {size} {domain:02x} {asked} {status} {digits_of(out, asked)}" for way in ("one", "cut")]
     for function, rate in (("KT128", 168), ("KT256", 136)):
         for size, custom, asked in kt_edges_of(rate):
             status, out = one_go.kt(rate, reference.ptn(size), reference.ptn(custom), asked)

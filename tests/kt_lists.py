@@ -3,6 +3,7 @@ import random
 
 import reference
 from replay import ABSORBED, CUSTOMIZED, LANES, LEAF_LANES, LEAF_POSITION, MOST, PHASE, POSITION, SEED, SQUEEZED, Calls
+from sponge_functions import SPONGE, TURBOSHAKE
 from transcript import ABSORBING, CUSTOMIZING, FINALIZED, KT, Limits
 
 CHUNK = reference.CHUNK
@@ -233,12 +234,12 @@ class KtLists:
 
     def other_list(self):
         """A short list of the other functions: the fields of a run are those of its function."""
-        calls = self.calls
-        calls.fresh(self.source.choice((0, 1)))
+        calls, number = self.calls, self.source.choice(list(SPONGE))
+        calls.fresh(number)
         calls.absorb(STREAMS[0][: self.source.randrange(400)])
         calls.dump()
-        calls.finalize(0x1F)
-        calls.squeeze(40)
+        calls.finalize(0x1F if number in TURBOSHAKE else None)
+        calls.squeeze(28)
         calls.dump()
 
     def overwritten_call(self):

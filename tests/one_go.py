@@ -1,26 +1,29 @@
-"""What the calls in one go must answer: their status by the lengths, in document 01's order, and the bytes of one that is done.
+"""What the calls in one go must answer: their status by the lengths, in document 01's order, and the bytes of one that is done. And what the
+permutation answers.
 
 Written from documents 01 and 02 and the draft, as transcript.py is, which says the statuses that calls on runs share.
 """
 import reference
-from transcript import BAD_SIZE, CHAINING, DONE, TOO_LONG, TOO_MUCH, Limits, custom_status, domain_status
+from transcript import BAD_SIZE, CHAINING, DONE, TOO_LONG, TOO_MUCH, Limits, custom_status, domain_status, read_limit
 
 HOPMAC = {0: reference.hopmac128, 1: reference.hopmac256}  # by the number of the strength
 LONGEST_TAG = 64  # of those that the tag check takes
+MOST_ROUNDS = 24
+TOO_MANY_ROUNDS = 16  # the answer to more
 
 
-def lengths_status(message_size, size):
+def lengths_status(message_size, size, limit=Limits.SQUEEZE_LIMIT):
     """The answers of a one-go call that its lengths decide: 2, 7 and 6."""
     if message_size > Limits.ABSORB_LIMIT:
         return TOO_LONG
     if size == 0:
         return BAD_SIZE
-    return TOO_MUCH if size > Limits.SQUEEZE_LIMIT else DONE
+    return TOO_MUCH if size > limit else DONE
 
 
-def turboshake_status(message_size, domain, size):
-    """The status of a TurboSHAKE call in one go: 1, 2, 7, 6, in this order."""
-    return domain_status(domain) or lengths_status(message_size, size)
+def sponge_status(function, message_size, domain, size):
+    """The status of a call in one go of a function that is the sponge: 1, 2, 7, 6, in this order; FIPS 202's have no 1."""
+    return domain_status(function, domain) or lengths_status(message_size, size, read_limit(function))
 
 
 def kt_status(message_size, custom_size, size):
@@ -29,10 +32,17 @@ def kt_status(message_size, custom_size, size):
     return status if status == TOO_LONG else custom_status(custom_size) or status
 
 
-def turboshake(rate, message, domain, size):
-    """The status of a one-go call, and the bytes that a done one gives."""
-    status = turboshake_status(len(message), domain, size)
-    return status, reference.turboshake(rate, message, domain, size) if status == DONE else None
+def sponge(function, message, domain, size):
+    """The status of a one-go call, and the bytes that a done one gives. The domain byte is TurboSHAKE's, else None."""
+    status = sponge_status(function, len(message), domain, size)
+    return status, function.output(message, domain, size) if status == DONE else None
+
+
+def permutation(rounds, state):
+    """The status of the last so many rounds on 200 bytes, and the bytes afterwards, which a refused call leaves as they were."""
+    if rounds > MOST_ROUNDS:
+        return TOO_MANY_ROUNDS, state
+    return DONE, reference.bytes_of(reference.keccak_p(reference.state_of(state), rounds))
 
 
 def kt(rate, message, custom, size):

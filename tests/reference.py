@@ -1,8 +1,9 @@
 #!/usr/bin/env python3
-"""The independent second program: Keccak-p[1600], TurboSHAKE, KangarooTwelve, HopMAC and a day's message in Python, from the papers alone.
+"""The independent second program: Keccak-p[1600], TurboSHAKE, SHA-3, SHAKE, KangarooTwelve, HopMAC and a day's message in Python, from the
+papers alone.
 
-Written from FIPS 202 (sections 3.2 to 3.4), draft-irtf-cfrg-kangarootwelve-16 (sections 2 to 4) and request Q-1, never from the Rattle
-sources. Both tables are computed from the standard's own rules. Standard library only.
+Written from FIPS 202 (sections 3.2 to 3.4, 5 and 6), draft-irtf-cfrg-kangarootwelve-16 (sections 2 to 4) and request Q-1, never from the
+Rattle sources. Both tables are computed from the standard's own rules. Standard library only.
 
   reference.py permutation     what the program `permutation` writes
 """
@@ -51,16 +52,21 @@ def rotl(v, n):
     return (v << n | v >> (64 - n)) & MASK
 
 
-def keccak_p(lanes, rounds):
-    """Keccak-p[1600, rounds]: the last `rounds` of the 24 rounds of Keccak-f[1600]."""
+def rounds_of(lanes, constants):
+    """A round for each of these constants."""
     a = list(lanes)
-    for constant in CONSTANTS[24 - rounds :]:
+    for constant in constants:
         c = [a[x] ^ a[x + 5] ^ a[x + 10] ^ a[x + 15] ^ a[x + 20] for x in range(5)]
         d = [c[x - 1] ^ rotl(c[(x + 1) % 5], 1) for x in range(5)]
         b = [rotl(a[i] ^ d[i % 5], OFFSETS[i]) for i in SOURCES]
         a = [b[i] ^ ((b[i - i % 5 + (i + 1) % 5] ^ MASK) & b[i - i % 5 + (i + 2) % 5]) for i in range(25)]
         a[0] ^= constant
     return a
+
+
+def keccak_p(lanes, rounds):
+    """Keccak-p[1600, rounds]: the last `rounds` of the 24 rounds of Keccak-f[1600]."""
+    return rounds_of(lanes, CONSTANTS[24 - rounds :])
 
 
 @functools.lru_cache(maxsize=1 << 15)  # the tests come to the same states in more than one way, and a permutation takes 0.3 ms
@@ -96,6 +102,25 @@ def sponge(rounds, rate, message, last, length):
 def turboshake(rate, message, domain, length):
     """TurboSHAKE128 (rate 168) and TurboSHAKE256 (rate 136), section 2.2."""
     return sponge(12, rate, message, domain, length)
+
+
+def keccak(capacity, message, suffix, length):
+    """FIPS 202, section 5.2: KECCAK[c] on M and the bits of the suffix, of which the padding's first bit makes a whole byte.
+
+    The capacity is in bits, and the rate what it leaves of 1600. The least significant bit of a byte comes first.
+    """
+    last = sum(int(bit) << i for i, bit in enumerate(suffix + "1"))
+    return sponge(24, (1600 - capacity) // 8, message, last, length)
+
+
+def sha3(bits, message):
+    """FIPS 202, section 6.1: SHA3-224, 256, 384 and 512, by the digest's length in bits."""
+    return keccak(2 * bits, message, "01", bits // 8)
+
+
+def shake(strength, message, length):
+    """FIPS 202, section 6.2: SHAKE128 and SHAKE256."""
+    return keccak(2 * strength, message, "1111", length)
 
 
 def length_encode(x):

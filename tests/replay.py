@@ -11,13 +11,14 @@ from pathlib import Path
 
 import one_go
 import transcript
-from transcript import RATES, TURBOSHAKE
+from sponge_functions import FIPS202, SPONGE, TURBOSHAKE
+from transcript import KT, RATES
 
 PROGRAM = Path(__file__).resolve().parent.parent / "target/bin/replay"
 SEED = 20  # of every random list
 MOST = 262_144  # the length of the program's buffers
 BEFORE = b"\xa5"  # each byte of the buffer that a squeeze is given
-# The fields that S writes. Lane i is 64 + i; the leaf's 96 + i. A TurboSHAKE run has no leaf and no customization bytes.
+# The fields that S writes. Lane i is 64 + i; the leaf's 96 + i. Only a run of KT or a day has a leaf and customization bytes.
 PHASE, ABSORBED, SQUEEZED, POSITION, LEAF_POSITION, CUSTOMIZED, LANES, LEAF_LANES = 0, 1, 2, 3, 4, 5, 64, 96
 NAMES = {PHASE: "phase", ABSORBED: "absorbed", SQUEEZED: "squeezed", CUSTOMIZED: "customized"}
 
@@ -37,6 +38,14 @@ def set_record(field, value):
 
 def one_go_record(function, domain, size, message):
     return record("T", bytes([function, domain]) + counted(message, size))
+
+
+def fips_record(function, size, message):
+    return record("B", bytes([function]) + counted(message, size))
+
+
+def permutation_record(rounds, state):
+    return record("P", bytes([rounds]) + state)
 
 
 def kt_record(function, custom, size, message, custom_size=None):
@@ -97,6 +106,7 @@ class Calls:
         self.expected = []  # (number of the record, what it asks, the line); two of a record where book and run both say it
         self.lines = 0
         self.answers = Counter()  # of (op, status)
+        self.answers_of = Counter()  # of (function of the run in hand, or of the hash in one go; op, status)
         self.function = self.book = self.run = None
 
     @property
@@ -113,11 +123,15 @@ class Calls:
         self.book, self.run = transcript.book_of(function), transcript.run_of(function)
         self.add(f"N {function}", record("N", bytes([function])), "fresh")
 
-    def call(self, what, data, *wanted):
-        """Adds a call, whose line begins with its status. After a refusal the run must be as it was, so a dump follows."""
+    def call(self, what, data, *wanted, function=None):
+        """Adds a call, whose line begins with its status. After a refusal the run must be as it was, so a dump follows.
+
+        `function` is that of a hash in one go, which need not be the run's.
+        """
         self.add(what, data, *wanted)
-        status = int(wanted[-1][0])
+        status = int(wanted[-1].split(" ")[0])
         self.answers[what[0], status] += 1
+        self.answers_of[self.function if function is None else function, what[0], status] += 1
         if status:
             self.dump()
 
@@ -127,9 +141,11 @@ class Calls:
     def absorb(self, piece):
         self.call(f"A of {len(piece)} bytes", record("A", piece), *map(str, self.asked("absorb", piece)))
 
-    def finalize(self, argument):
-        """With a domain byte, with KT's customization string or with the name of a day's station."""
-        if self.function in TURBOSHAKE:
+    def finalize(self, argument=None):
+        """With a domain byte, with KT's customization string, with the name of a day's station, or, in FIPS 202, with nothing."""
+        if self.function in FIPS202:
+            what, payload = "F", b""
+        elif self.function in TURBOSHAKE:
             what, payload = f"F {argument:02x}", bytes([argument])
         else:
             what, payload = f"F with C of {len(argument)} bytes", argument
@@ -147,14 +163,21 @@ class Calls:
         self.call(f"R of {size} bytes", record("R", n=size), *lines)
 
     def one_go(self, function, message, domain, size):
-        answer = one_go.turboshake(RATES[function], message, domain, size)
-        what = f"T {function} {domain:02x} of {len(message)} bytes, {size} asked"
-        self.call(what, one_go_record(function, domain, size, message), bytes_line(*answer, size))
+        """Of TurboSHAKE; or of FIPS 202, where the domain byte is None."""
+        answer = one_go.sponge(SPONGE[function], message, domain, size)
+        what, data = f"B {function}", fips_record(function, size, message)
+        if function in TURBOSHAKE:
+            what, data = f"T {function} {domain:02x}", one_go_record(function, domain, size, message)
+        self.call(f"{what} of {len(message)} bytes, {size} asked", data, bytes_line(*answer, size), function=function)
+
+    def permute(self, rounds, state):
+        status, after = one_go.permutation(rounds, state)
+        self.call(f"P {rounds} of {state[:8].hex()}..", permutation_record(rounds, state), bytes_line(status, after, len(state)))
 
     def kt_one_go(self, function, message, custom, size):
-        answer = one_go.kt(RATES[function], message, custom, size)
+        answer = one_go.kt(KT[function], message, custom, size)
         what = f"K {function} of {len(message)} bytes with C of {len(custom)}, {size} asked"
-        self.call(what, kt_record(function, custom, size, message), bytes_line(*answer, size))
+        self.call(what, kt_record(function, custom, size, message), bytes_line(*answer, size), function=function)
 
     def hopmac(self, strength, key, message, custom, size):
         answer = one_go.hopmac(strength, key, message, custom, size)
@@ -227,3 +250,12 @@ class Held(unittest.TestCase):
         faults = calls.faults()
         if faults:
             self.fail(f"seed {SEED}: " + "\n".join(faults))
+
+    def hold_lines(self, due):
+        """Of records whose lines are told without a book: pairs of the two. Gives the lines."""
+        got, status = play(b"".join(data for data, _ in due))
+        self.assertEqual((status, len(got)), (0, len(due)), f"exit status and number of lines; the last one: {got[-1:]}")
+        for number, ((data, want), line) in enumerate(zip(due, got)):
+            if line != want:
+                self.fail(f"record {number + 1}, {data[:16]}.. of {len(data)} bytes, {difference(line, want)}")
+        return got

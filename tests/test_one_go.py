@@ -3,6 +3,8 @@ import unittest
 
 import one_go
 import reference
+import transcript
+from sponge_functions import FIPS202, SHA3, SPONGE, TURBOSHAKE
 from transcript import KT, KtRun
 
 
@@ -12,11 +14,38 @@ class OneGo(unittest.TestCase):
     MESSAGE, CUSTOM, OUTPUT = 17_179_869_183, 16_777_215, 4_294_967_295
 
     def test_order_of_the_refusals(self):
-        self.assertEqual(one_go.turboshake_status(self.MESSAGE + 1, 0x80, 0), 1)
-        self.assertEqual(one_go.turboshake_status(self.MESSAGE + 1, 0x7F, 0), 2)
-        self.assertEqual(one_go.turboshake_status(self.MESSAGE, 0x01, 0), 7)
-        self.assertEqual(one_go.turboshake_status(self.MESSAGE, 0x01, self.OUTPUT + 1), 6)
-        self.assertEqual(one_go.turboshake_status(self.MESSAGE, 0x01, self.OUTPUT), 0)
+        for function in TURBOSHAKE.values():
+            self.assertEqual(one_go.sponge_status(function, self.MESSAGE + 1, 0x80, 0), 1)
+            self.assertEqual(one_go.sponge_status(function, self.MESSAGE + 1, 0x7F, 0), 2)
+            self.assertEqual(one_go.sponge_status(function, self.MESSAGE, 0x01, 0), 7)
+            self.assertEqual(one_go.sponge_status(function, self.MESSAGE, 0x01, self.OUTPUT + 1), 6)
+            self.assertEqual(one_go.sponge_status(function, self.MESSAGE, 0x01, self.OUTPUT), 0)
+
+    def test_order_of_the_fips_202_refusals(self):
+        """2, 7, 6; a SHA3 call beyond the digest answers 6, however far."""
+        outputs = {5: 28, 6: 32, 7: 48, 8: 64, 9: self.OUTPUT, 10: self.OUTPUT}
+        for number, output in outputs.items():
+            asked = (0, output + 1, self.OUTPUT + 1, 1, output)
+            over = [one_go.sponge_status(FIPS202[number], self.MESSAGE + 1, None, size) for size in asked]
+            most = [one_go.sponge_status(FIPS202[number], self.MESSAGE, None, size) for size in asked]
+            self.assertEqual((over, most), ([2] * 5, [7, 6, 6, 0, 0]))
+
+    def test_first_bytes_of_a_digest(self):
+        for function in SHA3.values():
+            digest = reference.sha3(8 * function.digest, b"message")
+            for size in range(1, function.digest + 1):
+                self.assertEqual(one_go.sponge(function, b"message", None, size), (0, digest[:size]))
+            self.assertEqual(one_go.sponge(function, b"message", None, function.digest + 1), (6, None))
+            self.assertEqual(one_go.sponge(function, b"message", None, 0), (7, None))
+
+    def test_rounds(self):
+        """Up to 24 are done; more answer 16 and leave the bytes."""
+        state = reference.ptn(200)
+        for rounds in range(25):
+            status, after = one_go.permutation(rounds, state)
+            self.assertEqual((status, reference.state_of(after)), (0, reference.keccak_p(reference.state_of(state), rounds)))
+        for rounds in (25, 26, 64, 255):
+            self.assertEqual(one_go.permutation(rounds, state), (16, state))
 
     def test_order_of_the_kt_refusals(self):
         self.assertEqual(one_go.kt_status(self.MESSAGE + 1, self.CUSTOM + 1, 0), 2)
@@ -51,6 +80,16 @@ class OneGo(unittest.TestCase):
             self.assertEqual(one_go.hopmac(strength, b"key", b"message", bytes(self.CUSTOM + 1), 32), (4, None))
 
     def test_same_as_the_run(self):
+        for number, function in SPONGE.items():
+            closing = 0x1F if number in TURBOSHAKE else None
+            for size in (0, 1, function.rate - 1, function.rate, function.rate + 1, 500):
+                run = transcript.run_of(number)
+                run.absorb(reference.ptn(size))
+                run.finalize(closing)
+                asked = function.digest or 300
+                self.assertEqual(one_go.sponge(function, reference.ptn(size), closing, asked), run.squeeze(asked), function.name)
+
+    def test_same_as_the_kt_run(self):
         for function, rate in KT.items():
             for size, custom in ((0, 0), (8191, 0), (8192, 0), (8192, 8189), (8192, 8190), (100, 20_000)):
                 run = KtRun(rate)

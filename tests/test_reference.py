@@ -1,11 +1,12 @@
 """The second program is held to what nobody here wrote, and to the standard's bit-by-bit text."""
-import hashlib
 import itertools
 import random
 import unittest
 
 import reference
+import third_program
 import vectors
+from sponge_functions import SHA3, SHAKE
 
 
 def keccak_p_bits(bits, rounds):
@@ -48,7 +49,8 @@ class Permutation(unittest.TestCase):
         self.assertEqual(reference.OFFSETS, [int(n) for n in rows.split()])
 
     def test_bit_by_bit(self):
-        for rounds, data in ((12, reference.ptn(200)), (12, random.Random(1).randbytes(200)), (24, reference.ptn(200))):
+        source = random.Random(1)
+        for rounds, data in ((12, reference.ptn(200)), *((n, source.randbytes(200)) for n in (0, 1, 2, 11, 12, 13, 23, 24))):
             after = reference.bytes_of(reference.keccak_p(reference.state_of(data), rounds))
             self.assertEqual(bits_of(after), keccak_p_bits(bits_of(data), rounds))
 
@@ -57,13 +59,15 @@ class Sponge(unittest.TestCase):
     """hashlib's SHA-3 and SHAKE use the same permutation with 24 rounds."""
 
     def test_hashlib(self):
+        """Messages that end around a block of each rate, outputs of several blocks."""
         source = random.Random(2)
-        for n in (0, 1, 71, 72, 135, 136, 137, 167, 168, 169, 335, 336, 337, 1000):
-            m = source.randbytes(n)
-            self.assertEqual(reference.sponge(24, 168, m, 0x1F, 500), hashlib.shake_128(m).digest(500))
-            self.assertEqual(reference.sponge(24, 136, m, 0x1F, 500), hashlib.shake_256(m).digest(500))
-            self.assertEqual(reference.sponge(24, 136, m, 0x06, 32), hashlib.sha3_256(m).digest())
-            self.assertEqual(reference.sponge(24, 72, m, 0x06, 64), hashlib.sha3_512(m).digest())
+        for function in SHA3.values():
+            for message in map(source.randbytes, third_program.sizes(source, function.rate)):
+                digest = third_program.output(function, message, function.digest)
+                self.assertEqual(reference.sha3(8 * function.digest, message), digest, function.name)
+        for strength, function in zip((128, 256), SHAKE.values()):
+            for message in map(source.randbytes, third_program.sizes(source, function.rate)):
+                self.assertEqual(reference.shake(strength, message, 500), third_program.output(function, message, 500), function.name)
 
     def test_twelve_rounds_by_the_draft(self):
         """The draft's TurboSHAKE vectors show the twelve rounds. The two of 17**6 bytes, 75 s in Python, are left out."""

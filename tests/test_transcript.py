@@ -5,7 +5,8 @@ import unittest
 
 import reference
 import transcript
-from transcript import CHAINING, DAY, KT, TURBOSHAKE, DayRun, DayTranscript, KtRun, KtTranscript, Limits, Run, Sponge, Transcript
+from sponge_functions import SPONGE, TURBOSHAKE, Function
+from transcript import CHAINING, DAY, KT, DayRun, DayTranscript, KtRun, KtTranscript, Limits, Run, Sponge, Transcript
 
 # Low enough that random lists of calls pass them.
 ABSORB_LIMIT, SQUEEZE_LIMIT = 900, 700
@@ -48,11 +49,12 @@ class SmallSponge(Sponge):
 class SmallRun(Run):
     """One whose states are few enough to visit all."""
 
-    ABSORB_LIMIT, SQUEEZE_LIMIT, RATE = 20, 17, 8
+    ABSORB_LIMIT, SQUEEZE_LIMIT = 20, 17
     SPONGE = SmallSponge
+    FUNCTION = Function("small", 8, 12)
 
     def __init__(self):
-        super().__init__(self.RATE)
+        super().__init__(self.FUNCTION)
 
     def key(self):
         return self.phase, *self.totals(), *(sponge.position for sponge in self.sponges())
@@ -64,15 +66,22 @@ class SmallRun(Run):
         return self
 
 
+class SmallDigestRun(SmallRun):
+    """One that has a byte of its own after the message, and a digest of less than a block."""
+
+    FUNCTION = Function("small digest", 8, 24, 0x06, 5)
+
+
 class SmallKtRun(SmallRun, KtRun):
     """Chunks of 6 bytes, blocks of 4, chaining values of 3: chunks end in the middle of a block and at its end."""
 
-    ABSORB_LIMIT, SQUEEZE_LIMIT, CUSTOM_LIMIT, RATE, CHUNK = 14, 6, 13, 4, 6
+    ABSORB_LIMIT, SQUEEZE_LIMIT, CUSTOM_LIMIT, CHUNK = 14, 6, 13, 6
+    FUNCTION = Function("small nodes", 4, 12)
 
     def __init__(self):
-        Run.__init__(self, self.RATE)
+        Run.__init__(self, self.FUNCTION)
         self.customized = 0
-        self.leaf = self.SPONGE(self.RATE)
+        self.leaf = self.fresh_sponge()
         self.chaining = 3
 
     def set(self, phase, absorbed, squeezed, customized, *positions):
@@ -103,17 +112,22 @@ class Agreement(unittest.TestCase):
         return status
 
     def test_random_lists(self):
+        """Of every function that is the sponge. Only TurboSHAKE's close has an argument, and so the answer 1."""
         source = random.Random(3)
-        seen = set()
-        for n in range(120):
-            rate = TURBOSHAKE[n % 2]
-            book, run = ShortTranscript(rate), ShortRun(rate)
-            for _ in range(12):
-                name = source.choice(("absorb", "absorb", "finalize", "squeeze", "squeeze", "squeeze"))
-                size = source.choice((0, 1, rate - 1, rate, rate + 1, source.randrange(400)))
-                argument = {"absorb": source.randbytes(size), "squeeze": size, "finalize": source.randrange(0x90)}[name]
-                seen.add((name, self.both(book, run, name, argument)))
-        self.assertEqual(seen, {("absorb", s) for s in (0, 2, 3)} | {("finalize", s) for s in (0, 1, 3)} | {("squeeze", s) for s in (0, 3, 6)})
+        for number, function in SPONGE.items():
+            rate, seen = function.rate, set()
+            last = function.digest or 2 * rate
+            for _ in range(60):
+                book, run = ShortTranscript(function), ShortRun(function)
+                for _ in range(12):
+                    name = source.choice(("absorb", "absorb", "finalize", "squeeze", "squeeze", "squeeze"))
+                    size = source.choice((0, 1, rate - 1, rate, rate + 1, *map(source.randrange, (400, 700))))
+                    asked = source.choice((size, source.randrange(last), last - run.squeezed % last))
+                    closing = [source.randrange(0x90)] if number in TURBOSHAKE else []
+                    arguments = {"absorb": [source.randbytes(size)], "squeeze": [asked], "finalize": closing}
+                    seen.add((name, self.both(book, run, name, *arguments[name])))
+            due = {"absorb": (0, 2, 3), "finalize": (0, 1, 3) if number in TURBOSHAKE else (0, 3), "squeeze": (0, 3, 6)}
+            self.assertEqual(seen, {(name, status) for name, statuses in due.items() for status in statuses}, function.name)
 
     def test_random_kt_lists(self):
         """Through up to six chunks; a piece of the message or of C often ends at, one before or one past a chunk's end."""
@@ -141,18 +155,22 @@ class Agreement(unittest.TestCase):
         self.assertEqual(seen, {(name, status) for name, statuses in due.items() for status in statuses})
 
     def test_equal_books_leave_equal_runs(self):
-        for kind, argument, size, steps in ((Run, 0x1F, 700, (1, 7, 168, 169, 700)), (KtRun, b"abc", 17_000, (97, 168, 8191, 8192, 17_000))):
-            message = reference.ptn(size)
-            runs = []
-            for step, asked in zip(steps, (1, 5, 168, 167, 500)):
-                run = kind(168)
-                for at in range(0, size, step):
-                    run.absorb(message[at : at + step])
-                run.finalize(argument)
-                for at in range(0, 500, asked):
-                    run.squeeze(min(asked, 500 - at))
-                runs.append(fields(run))
-            self.assertEqual(runs, [runs[0]] * 5)
+        for number, function in SPONGE.items():
+            self.cut_in_any_way(number, 0x1F if number in TURBOSHAKE else None, 700, (1, 7, 168, 169, 700), function.digest or 500)
+        self.cut_in_any_way(2, b"abc", 17_000, (97, 168, 8191, 8192, 17_000), 500)
+
+    def cut_in_any_way(self, number, argument, size, steps, asked):
+        message = reference.ptn(size)
+        runs = []
+        for step, part in zip(steps, (1, 5, 168, 167, 500)):
+            run = transcript.run_of(number)
+            for at in range(0, size, step):
+                self.assertEqual(run.absorb(message[at : at + step]), 0)
+            self.assertEqual(run.finalize(argument), 0)
+            for at in range(0, asked, part):
+                self.assertEqual(run.squeeze(min(part, asked - at))[0], 0)
+            runs.append(fields(run))
+        self.assertEqual(runs, [runs[0]] * 5)
 
 
 class Leaf(unittest.TestCase):
@@ -166,7 +184,7 @@ class Leaf(unittest.TestCase):
             self.assertEqual((run.leaf.position, run.leaf.lanes), (1, [7] + [0] * 24))
             node = reference.ptn(8192) + b"\x03" + bytes(7)
             node += reference.turboshake(rate, reference.ptn(16_384)[8192:], 0x0B, CHAINING[rate])
-            alone = Sponge(rate)
+            alone = Sponge(rate, 12)
             alone.absorb(node)
             self.assertEqual(vars(run.node), vars(alone))
 
@@ -174,7 +192,7 @@ class Leaf(unittest.TestCase):
         for size in (0, 1, 8191, 8192):
             run = KtRun(168)
             run.absorb(reference.ptn(size))
-            self.assertEqual(vars(run.leaf), vars(Sponge(168)))
+            self.assertEqual(vars(run.leaf), vars(Sponge(168, 12)))
             self.assertEqual(run.node.position, transcript.position_after(168, size))
 
     def test_fresh_after_the_finalize(self):
@@ -182,7 +200,7 @@ class Leaf(unittest.TestCase):
             run = KtRun(136)
             run.absorb(reference.ptn(size))
             run.finalize(b"")
-            self.assertEqual(vars(run.leaf), vars(Sponge(136)))
+            self.assertEqual(vars(run.leaf), vars(Sponge(136, 12)))
             self.assertEqual(run.node.position, 0)
 
 
@@ -277,10 +295,11 @@ class Reached(unittest.TestCase):
 
     def test_by_every_call_from_a_fresh_run(self):
         """Visits all that calls reach from a fresh run, then asks is_reached of every phase, total and position near them."""
-        reached = self.reached_from_fresh(SmallRun, [("finalize", 0x1F)])
-        near = itertools.product(range(4), range(24), range(20), range(11))
-        self.assertEqual({key for key in near if SmallRun().set(*key).is_reached()}, reached)
-        self.assertEqual(len(reached), 21 + 21 * 18)
+        for kind, close, most in ((SmallRun, ("finalize", 0x1F), 17), (SmallDigestRun, ("finalize",), 5)):
+            reached = self.reached_from_fresh(kind, [close])
+            near = itertools.product(range(4), range(24), range(20), range(11))
+            self.assertEqual({key for key in near if kind().set(*key).is_reached()}, reached)
+            self.assertEqual(len(reached), 21 + 21 * (most + 1))
 
     def test_by_every_kt_call(self):
         """A day reaches what a KT run does: an empty event adds one byte. Either close alone reaches every closed run there is."""

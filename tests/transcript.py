@@ -2,28 +2,30 @@
 
 `Transcript`, `KtTranscript` and `DayTranscript` are the books: they get the arguments of each call alone, and say its status and its
 bytes. `Run`, `KtRun` and `DayRun` have the fields of a run, so they also answer for one whose fields were overwritten, of which the book
-says nothing. one_go.py has the calls in one go. Written from documents 01 and 02 and the draft, never from the Rattle sources.
+says nothing. `Transcript` and `Run` are those of every function that is the sponge alone (sponge_functions.py). one_go.py has the calls in
+one go. Written from documents 01 and 02 and the draft, never from the Rattle sources.
 
 A KT run and a day have a customization phase (request Q-2): `customize` takes a piece of C, `finish` closes the run with the C so taken,
 `finalize` closes a run in the message phase with a whole C.
 """
 import reference
+from sponge_functions import SPONGE, TURBOSHAKE
 
-TURBOSHAKE = {0: 168, 1: 136}  # the rates of functions 0 and 1: TurboSHAKE128 and TurboSHAKE256
-KT = {2: 168, 3: 136}  # those of 2 and 3: KT128 and KT256
+KT = {2: 168, 3: 136}  # the rates of functions 2 and 3: KT128 and KT256
 DAY = {4: 168}  # that of 4: the journal, which is KT128's
-RATES = TURBOSHAKE | KT | DAY
+RATES = {number: function.rate for number, function in SPONGE.items()} | KT | DAY
 CHAINING = {168: 32, 136: 64}  # the chaining length of each strength, by its rate
-ABSORBING, FINALIZED, CUSTOMIZING = 0, 1, 2  # the last is none of TurboSHAKE's
+NODES = {function.rate: function for function in TURBOSHAKE.values()}  # what the nodes of each strength are hashed by
+ABSORBING, FINALIZED, CUSTOMIZING = 0, 1, 2  # the last is KT's and a day's
 DONE, BAD_DOMAIN, TOO_LONG, WRONG_PHASE, CUSTOM_TOO_LONG, NOT_REACHED, TOO_MUCH, BAD_SIZE, EVENT_TOO_LONG = range(9)
 SINGLE_NODE, INTERMEDIATE_NODE, FINAL_NODE = 0x07, 0x0B, 0x06
 FIRST_CHUNK_END = b"\x03" + bytes(7)
 FINAL_NODE_END = b"\xff\xff"
 
 
-def domain_status(domain):
-    """Answer 1: the domain byte is 00 or 80 to FF."""
-    return DONE if 0x01 <= domain <= 0x7F else BAD_DOMAIN
+def domain_status(function, domain):
+    """Answer 1: the domain byte is 00 or 80 to FF. A function with a byte of its own after the message has no such answer."""
+    return DONE if function.last is not None or 0x01 <= domain <= 0x7F else BAD_DOMAIN
 
 
 class Limits:
@@ -35,6 +37,11 @@ class Limits:
     EVENT_LIMIT = 65_535
 
 
+def read_limit(function, limit=Limits.SQUEEZE_LIMIT):
+    """The most bytes that are read of a run, or asked in one go: of SHA3 the digest's."""
+    return limit if function.digest is None else function.digest
+
+
 def custom_status(size, limit=Limits.CUSTOM_LIMIT):
     """Answer 4: the customization string is longer than its limit."""
     return CUSTOM_TOO_LONG if size > limit else DONE
@@ -43,8 +50,8 @@ def custom_status(size, limit=Limits.CUSTOM_LIMIT):
 class Transcript(Limits):
     """The book of one run: the bytes fed, the phase, the argument of the finalize, the number of bytes read."""
 
-    def __init__(self, rate):
-        self.rate = rate
+    def __init__(self, function):
+        self.function = function
         self.fed = bytearray()
         self.phase = ABSORBING
         self.argument = None
@@ -55,7 +62,7 @@ class Transcript(Limits):
         return len(self.fed), self.read
 
     def argument_status(self, domain):
-        return domain_status(domain)
+        return domain_status(self.function, domain)
 
     def absorb(self, piece):
         if self.phase != ABSORBING:
@@ -65,7 +72,8 @@ class Transcript(Limits):
         self.fed += piece
         return DONE
 
-    def finalize(self, argument):
+    def finalize(self, argument=None):
+        """TurboSHAKE's argument is the domain byte; FIPS 202's functions have none."""
         if self.phase != ABSORBING:
             return WRONG_PHASE
         status = self.argument_status(argument)
@@ -77,7 +85,7 @@ class Transcript(Limits):
         """The status, and the bytes that a done squeeze gives."""
         if self.phase != FINALIZED:
             return WRONG_PHASE, None
-        if self.read + size > self.SQUEEZE_LIMIT:
+        if self.read + size > read_limit(self.function, self.SQUEEZE_LIMIT):
             return TOO_MUCH, None
         start, self.read = self.read, self.read + size
         return DONE, self.first(self.read)[start:]
@@ -85,18 +93,18 @@ class Transcript(Limits):
     def first(self, size):
         """The first `size` bytes of the published output. More are kept than asked, so that many small squeezes stay cheap."""
         if len(self.output) < size:
-            self.output = self.published(max(size, 2 * len(self.output), self.rate))
+            self.output = self.published(max(size, 2 * len(self.output), self.function.rate))
         return self.output[:size]
 
     def published(self, size):
-        return reference.turboshake(self.rate, self.fed, self.argument, size)
+        return self.function.output(self.fed, self.argument, size)
 
 
 class KtTranscript(Transcript):
     """The book of a KT run: the argument of the finalize is the customization string C, which may also come before it in pieces."""
 
     def __init__(self, rate):
-        super().__init__(rate)
+        super().__init__(NODES[rate])
         self.argument = bytearray()
 
     def totals(self):
@@ -121,7 +129,8 @@ class KtTranscript(Transcript):
         return DONE
 
     def published(self, size):
-        return reference.kangarootwelve(self.rate, CHAINING[self.rate], self.fed, self.argument, size)
+        rate = self.function.rate
+        return reference.kangarootwelve(rate, CHAINING[rate], self.fed, self.argument, size)
 
 
 class DayTranscript(KtTranscript):
@@ -141,13 +150,14 @@ def position_after(rate, total):
 class Sponge:
     """25 lanes and a position."""
 
-    def __init__(self, rate):
+    def __init__(self, rate, rounds):
         self.rate = rate
+        self.rounds = rounds
         self.position = 0
         self.lanes = [0] * 25
 
     def permute(self):
-        self.lanes = list(reference.permuted(tuple(self.lanes), 12))
+        self.lanes = list(reference.permuted(tuple(self.lanes), self.rounds))
         self.position = 0
 
     def mix(self, start, part):
@@ -165,10 +175,10 @@ class Sponge:
             self.position += len(part)
             taken += len(part)
 
-    def pad(self, domain):
+    def pad(self, last):
         if self.position == self.rate:
             self.permute()
-        self.mix(self.position, bytes([domain]))
+        self.mix(self.position, bytes([last]))
         self.mix(self.rate - 1, b"\x80")
         self.permute()
 
@@ -189,12 +199,16 @@ class Run(Limits):
     SPONGE = Sponge
     PHASES = ABSORBING, FINALIZED
 
-    def __init__(self, rate):
-        self.rate = rate
+    def __init__(self, function):
+        self.function = function
+        self.rate = function.rate
         self.phase = ABSORBING
         self.absorbed = 0
         self.squeezed = 0
-        self.node = self.SPONGE(rate)  # the final node of a KT run; the only sponge of a TurboSHAKE run
+        self.node = self.fresh_sponge()  # the final node of a KT run; the only sponge of another
+
+    def fresh_sponge(self):
+        return self.SPONGE(self.rate, self.function.rounds)
 
     def totals(self):
         return self.absorbed, self.squeezed
@@ -203,7 +217,7 @@ class Run(Limits):
         return (self.node,)
 
     def argument_status(self, domain):
-        return domain_status(domain)
+        return domain_status(self.function, domain)
 
     def positions_due(self):
         """The position of each sponge of a run that has this phase and these totals."""
@@ -211,7 +225,7 @@ class Run(Limits):
 
     def is_reached(self):
         """Whether calls from a fresh run reach this phase, these totals and positions together. The lanes are not looked at."""
-        if self.absorbed > self.ABSORB_LIMIT or self.squeezed > self.SQUEEZE_LIMIT:
+        if self.absorbed > self.ABSORB_LIMIT or self.squeezed > read_limit(self.function, self.SQUEEZE_LIMIT):
             return False
         if self.phase not in self.PHASES or (self.phase != FINALIZED and self.squeezed):
             return False
@@ -232,7 +246,7 @@ class Run(Limits):
             self.absorbed += len(piece)
         return status
 
-    def finalize(self, argument):
+    def finalize(self, argument=None):
         status = self.refusal(ABSORBING) or self.argument_status(argument)
         if status == DONE:
             self.close(argument)
@@ -242,7 +256,7 @@ class Run(Limits):
     def squeeze(self, size):
         """The status, and the bytes that a done squeeze gives."""
         status = self.refusal(FINALIZED)
-        if status == DONE and self.squeezed + size > self.SQUEEZE_LIMIT:
+        if status == DONE and self.squeezed + size > read_limit(self.function, self.SQUEEZE_LIMIT):
             status = TOO_MUCH
         if status != DONE:
             return status, None
@@ -253,7 +267,7 @@ class Run(Limits):
         self.node.absorb(piece)
 
     def close(self, domain):
-        self.node.pad(domain)
+        self.node.pad(self.function.byte_after(domain))
 
 
 class KtRun(Run):
@@ -263,9 +277,9 @@ class KtRun(Run):
     PHASES = ABSORBING, FINALIZED, CUSTOMIZING
 
     def __init__(self, rate):
-        super().__init__(rate)
+        super().__init__(NODES[rate])
         self.customized = 0  # in the message phase; the length of C once the run is closed, by either close
-        self.leaf = self.SPONGE(rate)
+        self.leaf = self.fresh_sponge()
         self.chaining = CHAINING[rate]
 
     def totals(self):
@@ -331,7 +345,7 @@ class KtRun(Run):
         else:
             self.leaf.pad(INTERMEDIATE_NODE)
             self.node.absorb(self.leaf.squeeze(self.chaining))
-        self.leaf = self.SPONGE(self.rate)
+        self.leaf = self.fresh_sponge()
 
     def close(self, custom):
         self.take_custom(custom)
@@ -348,7 +362,7 @@ class KtRun(Run):
             self.close_chunk(last)
             self.node.absorb(reference.length_encode(last) + FINAL_NODE_END)
             self.node.pad(FINAL_NODE)
-        self.leaf = self.SPONGE(self.rate)
+        self.leaf = self.fresh_sponge()
 
 
 class DayRun(KtRun):
@@ -361,12 +375,17 @@ class DayRun(KtRun):
         return status or super().absorb(reference.with_length(event))
 
 
-KINDS = dict.fromkeys(TURBOSHAKE, (Transcript, Run)) | dict.fromkeys(KT, (KtTranscript, KtRun)) | dict.fromkeys(DAY, (DayTranscript, DayRun))
+# the book and the run of each function, and what both are made of
+KINDS = {number: (Transcript, Run, function) for number, function in SPONGE.items()}
+KINDS |= {number: (KtTranscript, KtRun, rate) for number, rate in KT.items()}
+KINDS |= {number: (DayTranscript, DayRun, rate) for number, rate in DAY.items()}
 
 
-def book_of(function):
-    return KINDS[function][0](RATES[function])
+def book_of(number):
+    book, _, made_of = KINDS[number]
+    return book(made_of)
 
 
-def run_of(function):
-    return KINDS[function][1](RATES[function])
+def run_of(number):
+    _, run, made_of = KINDS[number]
+    return run(made_of)
