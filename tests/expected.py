@@ -4,6 +4,7 @@
   expected.py vectors     the draft's vectors as it prints them; nothing is worked out here
   expected.py edges       both sides of each edge of document 01, by the second program
   expected.py day         the digest of a day, by the journal's book and by the second program in one go
+  expected.py types       a digest by each type of a function that is the sponge
 """
 import functools
 import sys
@@ -12,7 +13,7 @@ import one_go
 import reference
 import transcript
 import vectors
-from sponge_functions import TURBOSHAKE
+from sponge_functions import SPONGE, TURBOSHAKE
 
 BEFORE = b"\xa5"  # each byte of the program's output buffer before the calls
 CHUNK = reference.CHUNK
@@ -165,7 +166,25 @@ def day_output():
     return f"shift {shift.hex()}\nclerk {clerk.hex()}\n"
 
 
-OUTPUTS = {"vectors": vectors_output, "edges": edges_output, "day": day_output}
+def types_output():
+    """A line for each function that is the sponge: its name, and twice the bytes of ptn(200), from a run and in one go.
+
+    SHA3's digest has a length; of the others 32 bytes are asked at the rate 168 and 64 at the rate 136. TurboSHAKE's D is 1F.
+    """
+    lines = []
+    for number, function in SPONGE.items():
+        domain = 0x1F if number in TURBOSHAKE else None
+        size = function.digest or transcript.CHAINING[function.rate]
+        run = transcript.book_of(number)
+        run.absorb(reference.ptn(200))
+        run.finalize(domain)
+        _, cut = run.squeeze(size)
+        _, one = one_go.sponge(function, reference.ptn(200), domain, size)
+        lines.append(f"{function.name} {cut.hex()} {one.hex()}")
+    return "\n".join(lines) + "\n"
+
+
+OUTPUTS = {"vectors": vectors_output, "edges": edges_output, "day": day_output, "types": types_output}
 
 if __name__ == "__main__":
     if len(sys.argv) != 2 or sys.argv[1] not in OUTPUTS:

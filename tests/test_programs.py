@@ -5,7 +5,9 @@ from pathlib import Path
 import expected
 import make_replay_sample
 import reference
+import third_program
 import transcript
+from sponge_functions import FIPS202, SPONGE
 
 ROOT = Path(__file__).resolve().parent.parent
 
@@ -60,6 +62,17 @@ class Output(unittest.TestCase):
         s = message + b"Hanbeorit station 3" + b"\x13\x01"
         self.assertEqual((len(message), len(reference.chunks(s))), (9066, 2))
         self.assertEqual(shift[1], reference.turboshake(168, *reference.final_node(168, 32, s), 32).hex())
+
+
+    def test_types(self):
+        """A line for each function, with the same bytes twice; those of FIPS 202 are hashlib's."""
+        lines = [line.split(" ") for line in expected.types_output().splitlines()]
+        self.assertEqual([name for name, _, _ in lines], [function.name for function in SPONGE.values()])
+        self.assertEqual([len(run) // 2 for _, run, _ in lines], [32, 64, 28, 32, 48, 64, 32, 64])
+        for name, run, one in lines:
+            self.assertEqual(run, one, name)
+        for (_, run, _), function in zip(lines[-len(FIPS202) :], FIPS202.values()):
+            self.assertEqual(run, third_program.output(function, reference.ptn(200), len(run) // 2).hex(), function.name)
 
 
 class Nodes(unittest.TestCase):
