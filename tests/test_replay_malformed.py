@@ -5,7 +5,8 @@ Needs target/bin/replay, which `rt check` and `rt ci` leave.
 import unittest
 
 from replay import CUSTOMIZED, LANES, LEAF_LANES, LEAF_POSITION, MOST, PHASE, POSITION
-from replay import hopmac_record, kt_record, one_go_record, play, record, set_record, verify_record
+from replay import fips_record, hopmac_record, kt_record, one_go_record, permutation_record, play, record, set_record, verify_record
+from sponge_functions import FIPS202, SPONGE, TURBOSHAKE
 
 BIG = (1 << 64) - 1
 FAR = MOST + 1, 1 << 24, (1 << 32) - 1  # more than the buffers hold
@@ -32,25 +33,26 @@ class Malformed(unittest.TestCase):
         whole = [record("N", b"\1"), record("A", b"ab"), record("F", b"\x1f"), record("R", n=3), set_record(PHASE, 0), record("D")]
         whole += [one_go_record(0, 0x1F, 2, b"xyz"), kt_record(2, b"abc", 2, b"xyz"), record("A", bytes(MOST))]
         whole += [hopmac_record(0, b"key", b"abc", 2, b"xyz"), verify_record(1, b"tag", b"key", b"abc", b"xyz")]
-        whole += [record("C", b"ab"), record("E")]
-        for function in (0, 2, 4):
+        whole += [record("C", b"ab"), record("E"), record("F"), fips_record(5, 2, b"xyz"), permutation_record(12, bytes(200))]
+        for function in (0, 2, 4, 5):
             for data in whole:
                 for size in {*range(1, min(len(data), 20)), len(data) - 1}:
                     with self.subTest(op=data[:1], size=size):
                         self.refused([(record("N", bytes([function])), "fresh")], data[:size])
 
     def test_unknown_op(self):
-        for op in "\x00\n \xff09anftkhvceZ":
+        for op in "\x00\n \xff09anftkhvcebpZ":
             for n in (0, 1):
                 with self.subTest(op=op, n=n):
                     self.refused_in_a_list(record(op, bytes(n)))
 
     def test_too_long(self):
         for n in FAR:
-            for op, function in (*((op, 0) for op in "NAFSDTKHV"), *((op, function) for op in "AFCE" for function in (2, 3, 4))):
+            of_others = [(op, function) for op in "AFCE" for function in (2, 3, 4)] + [(op, function) for op in "AF" for function in (5, 9)]
+            for op, function in (*((op, 0) for op in "NAFSDTKHVBP"), *of_others):
                 with self.subTest(op=op, n=n, function=function):
                     self.refused_in_a_list(record(op, bytes(MOST + 1), n=n), function)
-            for function in (0, 2, 4):
+            for function in (0, 2, 4, 5, 10):
                 self.refused_in_a_list(record("R", n=n), function)
 
     def test_inner_lengths(self):
@@ -63,6 +65,33 @@ class Malformed(unittest.TestCase):
             self.refused_in_a_list(one_go_record(0, 0x1F, size, b"abc"))
             self.refused_in_a_list(one_go_record(0, 0x80, size, b"abc"))
 
+    def test_inner_lengths_of_fips_202(self):
+        """Too short for its number, and an output longer than the buffer, of which the digest's end is no part."""
+        for function in FIPS202:
+            for size in range(5):
+                self.refused_in_a_list(record("B", (bytes([function]) + bytes(4))[:size]))
+            for size in FAR:
+                with self.subTest(function=function, size=size):
+                    self.refused_in_a_list(fips_record(function, size, b"abc"), function)
+                    self.refused_in_a_list(fips_record(function, size, b""))
+            self.refused([(fips_record(function, 0, b""), "7 ")], record("Z"))
+
+    def test_length_of_a_state(self):
+        """200 bytes after the number of rounds, for every number; neither fewer nor more."""
+        for rounds in (0, 12, 24, 25, 255):
+            for size in (0, 1, 8, 192, 199, 201, 202, 208, 400, MOST - 1):
+                with self.subTest(rounds=rounds, size=size):
+                    self.refused_in_a_list(permutation_record(rounds, bytes(size)))
+        self.refused_in_a_list(record("P"))
+
+    def test_close_of_fips_202_with_bytes(self):
+        """It takes none, in any phase, not even the byte that it puts after the message."""
+        for function in FIPS202:
+            run = [(record("N", bytes([function])), "fresh"), (record("A", b"abc"), "0")]
+            for before in (run, [*run, (record("F"), "0")], [*run, (set_record(PHASE, 2), "set")]):
+                for payload in (b"\x06", b"\x1f", b"\0", b"ab", bytes(8), bytes(MOST)):
+                    self.refused(before, record("F", payload) + record("F") + record("N", b"\1"))
+
     def test_new_close_with_bytes(self):
         """The close of the customization phase takes none, in any phase."""
         for function in (2, 3, 4):
@@ -71,11 +100,12 @@ class Malformed(unittest.TestCase):
                 for size in (1, 2, 9, MOST):
                     self.refused(before, record("E", bytes(size)) + record("E") + record("N", b"\1"))
 
-    def test_customization_phase_of_turboshake(self):
-        """It has none: neither a customization piece nor the new close is a call of its runs, whatever their phase."""
-        for function in (0, 1):
+    def test_customization_phase_of_sponge_functions(self):
+        """They have none: neither a customization piece nor the new close is a call of their runs, whatever their phase."""
+        for function in SPONGE:
+            closed = record("F", b"\x1f" if function in TURBOSHAKE else b"")
             run = [(record("N", bytes([function])), "fresh"), (record("A", b"abc"), "0")]
-            for before in (run, [*run, (record("F", b"\x1f"), "0")], [*run, (set_record(PHASE, 2), "set")]):
+            for before in (run, [*run, (closed, "0")], [*run, (set_record(PHASE, 2), "set")]):
                 for data in (record("C"), record("C", b"\x1f"), record("C", b"abc"), record("E"), record("E", b"\x1f")):
                     self.refused(before, data + record("N", b"\2"))
 
@@ -123,14 +153,18 @@ class Malformed(unittest.TestCase):
             self.refused([(verify_record(0, bytes(size), b"key", b"abc", b"xyz"), "7 no")], record("Z"))
 
     def test_unknown_function(self):
-        """5 to 255; each of the two one-go calls with a function of the other or the journal's; strengths from 2 on."""
-        for function in range(5, 256):
+        """11 to 255; each of the three one-go calls with a function of another or the journal's; strengths from 2 on."""
+        for function in range(11, 256):
             with self.subTest(function=function):
                 self.refused_in_a_list(record("N", bytes([function])))
-        for function in (2, 3, 4, 5, 0x80, 0xFF):
-            self.refused_in_a_list(one_go_record(function, 0x1F, 32, b"abc"))
-        for function in (0, 1, 4, 5, 0x80, 0xFF):
-            self.refused_in_a_list(kt_record(function, b"", 32, b"abc"))
+        for function in {*range(12), 16, 0x80, 0x85, 0xFF}:
+            with self.subTest(function=function):
+                if function not in (0, 1):
+                    self.refused_in_a_list(one_go_record(function, 0x1F, 8, b"abc"))
+                if function not in (2, 3):
+                    self.refused_in_a_list(kt_record(function, b"", 8, b"abc"))
+                if function not in FIPS202:
+                    self.refused_in_a_list(fips_record(function, 8, b"\x1fabc"))
         for strength in range(2, 256):
             with self.subTest(strength=strength):
                 self.refused_in_a_list(hopmac_record(strength, b"key", b"abc", 32, b"xyz"))
@@ -139,20 +173,25 @@ class Malformed(unittest.TestCase):
     def test_no_run(self):
         answered = [(one_go_record(0, 0x1F, 0, b""), "7 "), (kt_record(3, b"", 0, b""), "7 ")]
         answered += [(hopmac_record(0, b"", b"", 0, b""), "7 "), (verify_record(1, b"", b"", b"", b""), "7 no")]
-        calls = record("A", b"ab"), record("A"), record("F", b"\x1f"), record("C", b"ab"), record("C"), record("E"), record("R", n=3)
+        answered += [(fips_record(5, 0, b""), "7 "), (permutation_record(0, bytes(200)), "0 " + 400 * "0")]
+        calls = record("A", b"ab"), record("A"), record("F", b"\x1f"), record("F"), record("C", b"ab"), record("C"), record("E"), record("R", n=3)
         for data in (*calls, set_record(PHASE, 0), record("D")):
             with self.subTest(op=data[:1]):
                 self.refused([], data + record("N", b"\0"))
                 self.refused(answered, data + record("N", b"\0"))
 
     def test_fields(self):
-        """A phase is a byte; fields 4 to 63 and from 89 on are none of a TurboSHAKE run."""
+        """A phase is a byte; fields 4 to 63 and from 89 on are none of a run that is one sponge."""
         for value in (256, 257, 1 << 32, BIG):
-            for function in range(5):
+            for function in range(11):
                 self.refused_in_a_list(set_record(PHASE, value), function)
         for field in (*range(POSITION + 1, LANES), *range(LANES + 25, 256)):
             with self.subTest(field=field):
                 self.refused_in_a_list(set_record(field, 0))
+                self.refused_in_a_list(set_record(field, 0), 5 + field % 6)
+        for function in SPONGE:
+            for field in (LEAF_POSITION, CUSTOMIZED, CUSTOMIZED + 1, LANES - 1, LANES + 25, LEAF_LANES, 255):
+                self.refused_in_a_list(set_record(field, 0), function)
 
     def test_fields_of_kt(self):
         """6 to 63, 89 to 95 and from 121 on are none of a KT run, nor of a day."""
@@ -167,7 +206,8 @@ class Malformed(unittest.TestCase):
             tree = [(record("N", function), "fresh"), (set_record(LEAF_POSITION, 7), "set"), (set_record(LEAF_LANES + 24, 7), "set")]
             tree += [(set_record(CUSTOMIZED, 7), "set"), (set_record(CUSTOMIZED, BIG), "set")]
             for field in (LEAF_POSITION, CUSTOMIZED, LEAF_LANES, LEAF_LANES + 24):
-                self.refused(tree + [(record("N", b"\0"), "fresh")], set_record(field, 7) + record("N", b"\2"))
+                for other in SPONGE:
+                    self.refused(tree + [(record("N", bytes([other])), "fresh")], set_record(field, 7) + record("N", b"\2"))
 
 
 if __name__ == "__main__":
