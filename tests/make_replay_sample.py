@@ -1,7 +1,7 @@
 #!/usr/bin/env python3
 """Writes crates/replay/stdin, a short list of calls, and crates/replay/stdout, the lines that the program `replay` must answer.
 
-Each status is written out here, by document 01's table and request Q-2; the bytes and the lanes are the second program's.
+Each status is written out here, by document 01's table and requests Q-2 and Q-5; the bytes and the lanes are the second program's.
 """
 from pathlib import Path
 
@@ -12,6 +12,11 @@ LIMIT, READ_LIMIT, CUSTOM_LIMIT = 17_179_869_183, 4_294_967_295, 16_777_215
 DIGEST = reference.turboshake(168, b"abc", 0x1F, 37).hex()
 BLOCK = b"abc\x1f" + bytes(163) + b"\x80" + bytes(32)  # the whole state: abc, D and 80 in the block of 168 bytes
 CLOSED = reference.keccak_p(reference.state_of(BLOCK), 12)
+SHA3_224 = reference.sha3(224, b"abc").hex()
+SHA3_BLOCK = b"abc\x06" + bytes(139) + b"\x80" + bytes(56)  # of 144 bytes
+SHA3_CLOSED = reference.keccak_p(reference.state_of(SHA3_BLOCK), 24)
+SHA3_NUMBERS = {5: 224, 6: 256, 7: 384, 8: 512}
+SHAKE_NUMBERS = {9: 128, 10: 256}
 CHUNK = reference.CHUNK
 MESSAGE = reference.ptn(CHUNK + 1)
 CUSTOM = b"abc"
@@ -44,6 +49,18 @@ def field(number, value):
 
 def one_go(function, domain, size, message):
     return record("T", bytes([function, domain]) + counted(message, size))
+
+
+def fips_one_go(function, size, message):
+    return record("B", bytes([function]) + counted(message, size))
+
+
+def rounds(number, state):
+    return record("P", bytes([number]) + state)
+
+
+def permuted(number, state):
+    return reference.bytes_of(reference.keccak_p(reference.state_of(state), number)).hex()
 
 
 def kt_one_go(function, custom, size, message):
@@ -241,6 +258,46 @@ SAMPLE = [
     (record("A", bytes(65_536)), "8"),
     (record("A", b"a"), "2"),
     (record("A", b""), "2"),
+    # SHA3-224: the close has no argument, and nothing is read beyond the digest's 28 bytes
+    (record("N", b"\5"), "fresh"),
+    (record("A", b"ab"), "0"),
+    (record("A", b"c"), "0"),
+    (record("D"), run_line(0, 3, 0, 3, 0x636261, *[0] * 24)),
+    (record("R", n=2), "3 a5a5"),
+    (record("F"), "0"),
+    (record("F"), "3"),
+    (record("A", b""), "3"),
+    (record("R", n=29), "6 " + 29 * "a5"),
+    (record("R", n=20), "0 " + SHA3_224[:40]),
+    (record("R", n=9), "6 " + 9 * "a5"),
+    (record("R", n=8), "0 " + SHA3_224[40:]),
+    (record("R", n=1), "6 a5"),
+    (record("R", n=0), "0 "),
+    (record("D"), run_line(1, 3, 28, 28, *SHA3_CLOSED)),
+    # no SHA3-224 run has read 29 bytes
+    (field(2, 29), "set"),
+    (field(3, 29), "set"),
+    (record("R", n=0), "5 "),
+    # but one of SHAKE128 has; a block of it ends after 168 bytes
+    (record("N", b"\x09"), "fresh"),
+    (record("F"), "0"),
+    (record("R", n=29), "0 " + reference.shake(128, b"", 29).hex()),
+    (record("R", n=200), "0 " + reference.shake(128, b"", 229)[29:].hex()),
+    # each in one go, a digest's first bytes, one byte more than it has, and none
+    *((fips_one_go(number, bits // 8, MESSAGE), "0 " + reference.sha3(bits, MESSAGE).hex()) for number, bits in SHA3_NUMBERS.items()),
+    *((fips_one_go(number, 200, MESSAGE), "0 " + reference.shake(strength, MESSAGE, 200).hex()) for number, strength in SHAKE_NUMBERS.items()),
+    (fips_one_go(8, 5, b"abc"), "0 " + reference.sha3(512, b"abc").hex()[:10]),
+    (fips_one_go(7, 49, b"abc"), "6 " + 49 * "a5"),
+    (fips_one_go(6, 0, b"abc"), "7 "),
+    (fips_one_go(10, 0, b"abc"), "7 "),
+    # one byte less than a block, so that 06 and 80 share a byte, and a full block
+    (fips_one_go(8, 64, MESSAGE[:71]), "0 " + reference.sha3(512, MESSAGE[:71]).hex()),
+    (fips_one_go(8, 64, MESSAGE[:72]), "0 " + reference.sha3(512, MESSAGE[:72]).hex()),
+    # the last rounds of 24, and one too many
+    *((rounds(number, MESSAGE[:200]), "0 " + permuted(number, MESSAGE[:200])) for number in (0, 1, 12, 23, 24)),
+    (rounds(24, bytes(200)), "0 " + permuted(24, bytes(200))),
+    (rounds(25, MESSAGE[:200]), "16 " + MESSAGE[:200].hex()),
+    (rounds(255, bytes(200)), "16 " + bytes(200).hex()),
     (record("Z"), "bad record"),
     # nothing is answered after that
     (record("N", b"\0"), None),
