@@ -4,7 +4,7 @@
   expected.py vectors     the draft's vectors as it prints them; nothing is worked out here
   expected.py edges       both sides of each edge of document 01, by the second program
   expected.py day         the digest of a day, by the journal's book and by the second program in one go
-  expected.py types       a digest by each type of a function that is the sponge
+  expected.py types       each type of a function that is the sponge, on a run and in one go, by the book and by the second program
 """
 import functools
 import sys
@@ -167,20 +167,23 @@ def day_output():
 
 
 def types_output():
-    """A line for each function that is the sponge: its name, and twice the bytes of ptn(200), from a run and in one go.
+    """A line for each function that is the sponge: its name, the statuses of the calls on a run of ptn(200) and of two calls in one go, and bytes.
 
-    SHA3's digest has a length; of the others 32 bytes are asked at the rate 168 and 64 at the rate 136. TurboSHAKE's D is 1F.
+    The run gets two pieces and the close, gives `size` bytes in two reads and one byte more, and is fed after the close. In one go `size` bytes are
+    asked, and one more. SHA3's digest has a length; of the others 32 bytes are asked at the rate 168 and 64 at the rate 136. TurboSHAKE's D is 1F.
     """
-    lines = []
+    message, lines = reference.ptn(200), []
     for number, function in SPONGE.items():
         domain = 0x1F if number in TURBOSHAKE else None
         size = function.digest or transcript.CHAINING[function.rate]
         run = transcript.book_of(number)
-        run.absorb(reference.ptn(200))
-        run.finalize(domain)
-        _, cut = run.squeeze(size)
-        _, one = one_go.sponge(function, reference.ptn(200), domain, size)
-        lines.append(f"{function.name} {cut.hex()} {one.hex()}")
+        statuses = [run.absorb(message[:67]), run.absorb(message[67:]), run.finalize(domain)]
+        reads = [(run.squeeze(asked), asked) for asked in (10, size - 10, 1)]
+        statuses += [status for (status, _), _ in reads] + [run.absorb(message[67:])]
+        reads += [(one_go.sponge(function, message, domain, asked), asked) for asked in (size, size + 1)]
+        statuses += [status for (status, _), _ in reads[3:]]
+        first, *rest = ((BEFORE * asked if given is None else given).hex() for (_, given), asked in reads)
+        lines.append(f"{function.name} {''.join(map(str, statuses))} {first}{' '.join(rest)}")
     return "\n".join(lines) + "\n"
 
 

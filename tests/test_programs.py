@@ -63,16 +63,19 @@ class Output(unittest.TestCase):
         self.assertEqual((len(message), len(reference.chunks(s))), (9066, 2))
         self.assertEqual(shift[1], reference.turboshake(168, *reference.final_node(168, 32, s), 32).hex())
 
-
     def test_types(self):
-        """A line for each function, with the same bytes twice; those of FIPS 202 are hashlib's."""
+        """A line for each function. The read and the call in one go past SHA3's digest answer 6 and leave A5; the bytes of FIPS 202 are hashlib's."""
         lines = [line.split(" ") for line in expected.types_output().splitlines()]
-        self.assertEqual([name for name, _, _ in lines], [function.name for function in SPONGE.values()])
-        self.assertEqual([len(run) // 2 for _, run, _ in lines], [32, 64, 28, 32, 48, 64, 32, 64])
-        for name, run, one in lines:
-            self.assertEqual(run, one, name)
-        for (_, run, _), function in zip(lines[-len(FIPS202) :], FIPS202.values()):
-            self.assertEqual(run, third_program.output(function, reference.ptn(200), len(run) // 2).hex(), function.name)
+        self.assertEqual([name for name, *_ in lines], [function.name for function in SPONGE.values()])
+        self.assertEqual([statuses for _, statuses, *_ in lines], 2 * ["000000300"] + 4 * ["000006306"] + 2 * ["000000300"])
+        sizes = [32, 64, 28, 32, 48, 64, 32, 64]
+        for (name, statuses, run, more, one, long), size in zip(lines, sizes):
+            self.assertEqual((run, len(bytes.fromhex(run))), (one, size), name)
+            self.assertEqual(long, (run + more) if statuses[-1] == "0" else "a5" * (size + 1), name)
+            self.assertEqual(more == "a5", statuses[-1] == "6", name)
+        for (_, statuses, run, *_, long), function in zip(lines[-len(FIPS202) :], FIPS202.values()):
+            told = long if statuses[-1] == "0" else run
+            self.assertEqual(told, third_program.output(function, reference.ptn(200), len(told) // 2).hex(), function.name)
 
 
 class Nodes(unittest.TestCase):

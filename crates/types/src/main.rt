@@ -1,5 +1,7 @@
-// Runs each type's own calls: ptn(200) absorbed, finalized and squeezed, and hashed in one go. Writes a line for each: the function, the bytes of the
-// run, and those of the call in one go; or `refused` where a call was.
+// Runs each type's own calls, once to the end and past it. Writes a line for each function: a digit for the status of each call, the bytes of the run,
+// the byte that follows them, the bytes of the call in one go, and those of one that asks for a byte more. Each buffer held A5 in every byte before.
+mod line;
+
 ghost use Prim.Native.Nat.{_≤_};
 ghost use lib.ListN.{length};
 use fips202::Sha3_224;
@@ -8,13 +10,14 @@ use fips202::Sha3_384;
 use fips202::Sha3_512;
 use fips202::Shake128;
 use fips202::Shake256;
-use libc::STDOUT_FILENO;
-use sponge::status::DONE;
+use line::Statuses;
 use turboshake::TurboShake128;
 use turboshake::TurboShake256;
 
 // TurboSHAKE's domain byte.
 const DOMAIN: u8 = 0x1f;
+
+const BEFORE: u8 = 0xa5;
 
 fn fill(message: &mut [u8]) {
     let mut i: usize = 0;
@@ -24,164 +27,336 @@ fn fill(message: &mut [u8]) {
     }
 }
 
-fn turboshake128(message: &[u8], run: &mut [u8], one: &mut [u8]) -> bool {
-    let absorbed = TurboShake128::fresh().absorb(message);
-    let open = absorbed.hasher;
-    let finalized = open.finalize(DOMAIN);
-    let closed = finalized.hasher;
-    let squeezed = closed.squeeze(run);
-    let hashed = TurboShake128::hash(message, DOMAIN, one);
-    absorbed.status == DONE && finalized.status == DONE && squeezed.status == DONE && hashed == DONE
-}
-
-fn turboshake256(message: &[u8], run: &mut [u8], one: &mut [u8]) -> bool {
-    let absorbed = TurboShake256::fresh().absorb(message);
-    let open = absorbed.hasher;
-    let finalized = open.finalize(DOMAIN);
-    let closed = finalized.hasher;
-    let squeezed = closed.squeeze(run);
-    let hashed = TurboShake256::hash(message, DOMAIN, one);
-    absorbed.status == DONE && finalized.status == DONE && squeezed.status == DONE && hashed == DONE
-}
-
-fn sha3_224(message: &[u8], run: &mut [u8], one: &mut [u8]) -> bool {
-    let absorbed = Sha3_224::fresh().absorb(message);
-    let open = absorbed.hasher;
-    let finalized = open.finalize();
-    let closed = finalized.hasher;
-    let squeezed = closed.squeeze(run);
-    let hashed = Sha3_224::hash(message, one);
-    absorbed.status == DONE && finalized.status == DONE && squeezed.status == DONE && hashed == DONE
-}
-
-fn sha3_256(message: &[u8], run: &mut [u8], one: &mut [u8]) -> bool {
-    let absorbed = Sha3_256::fresh().absorb(message);
-    let open = absorbed.hasher;
-    let finalized = open.finalize();
-    let closed = finalized.hasher;
-    let squeezed = closed.squeeze(run);
-    let hashed = Sha3_256::hash(message, one);
-    absorbed.status == DONE && finalized.status == DONE && squeezed.status == DONE && hashed == DONE
-}
-
-fn sha3_384(message: &[u8], run: &mut [u8], one: &mut [u8]) -> bool {
-    let absorbed = Sha3_384::fresh().absorb(message);
-    let open = absorbed.hasher;
-    let finalized = open.finalize();
-    let closed = finalized.hasher;
-    let squeezed = closed.squeeze(run);
-    let hashed = Sha3_384::hash(message, one);
-    absorbed.status == DONE && finalized.status == DONE && squeezed.status == DONE && hashed == DONE
-}
-
-fn sha3_512(message: &[u8], run: &mut [u8], one: &mut [u8]) -> bool {
-    let absorbed = Sha3_512::fresh().absorb(message);
-    let open = absorbed.hasher;
-    let finalized = open.finalize();
-    let closed = finalized.hasher;
-    let squeezed = closed.squeeze(run);
-    let hashed = Sha3_512::hash(message, one);
-    absorbed.status == DONE && finalized.status == DONE && squeezed.status == DONE && hashed == DONE
-}
-
-fn shake128(message: &[u8], run: &mut [u8], one: &mut [u8]) -> bool {
-    let absorbed = Shake128::fresh().absorb(message);
-    let open = absorbed.hasher;
-    let finalized = open.finalize();
-    let closed = finalized.hasher;
-    let squeezed = closed.squeeze(run);
-    let hashed = Shake128::hash(message, one);
-    absorbed.status == DONE && finalized.status == DONE && squeezed.status == DONE && hashed == DONE
-}
-
-fn shake256(message: &[u8], run: &mut [u8], one: &mut [u8]) -> bool {
-    let absorbed = Shake256::fresh().absorb(message);
-    let open = absorbed.hasher;
-    let finalized = open.finalize();
-    let closed = finalized.hasher;
-    let squeezed = closed.squeeze(run);
-    let hashed = Shake256::hash(message, one);
-    absorbed.status == DONE && finalized.status == DONE && squeezed.status == DONE && hashed == DONE
-}
-
-// Writes a space and the bytes' digits.
-fn write_bytes(bytes: &[u8]) -> bool
-    requires { ⌜ length (now bytes) ≤ 64 ⌝ }
-{
-    let mut text = [0u8; 128];
-    let end = 2 * bytes.len();
-    hex::put(&mut text, 0, bytes)
-        && io::write_all(STDOUT_FILENO, b" ")
-        && io::write_all(STDOUT_FILENO, &text[0..end])
-}
-
-fn write_line(name: &[u8], is_done: bool, run: &[u8], one: &[u8]) -> bool
-    requires { ⌜ length (now run) ≤ 64 ⌝ }
-    requires { ⌜ length (now one) ≤ 64 ⌝ }
-{
-    if !is_done {
-        return io::write_all(STDOUT_FILENO, name) && io::write_all(STDOUT_FILENO, b" refused\n");
+fn turboshake128(a: &[u8], b: &[u8], x: &mut [u8], y: &mut [u8], z: &mut [u8]) -> Statuses {
+    let first = TurboShake128::fresh().absorb(a);
+    let begun = first.hasher;
+    let second = begun.absorb(b);
+    let open = second.hasher;
+    let closed = open.finalize(DOMAIN);
+    let full = closed.hasher;
+    let given = full.squeeze(x);
+    let read = given.hasher;
+    let rest = read.squeeze(y);
+    let end = rest.hasher;
+    let more = end.squeeze(z);
+    let past = more.hasher;
+    let late = past.absorb(b);
+    Statuses {
+        first: first.status,
+        second: second.status,
+        closed: closed.status,
+        given: given.status,
+        rest: rest.status,
+        more: more.status,
+        late: late.status,
     }
-    io::write_all(STDOUT_FILENO, name)
-        && write_bytes(run)
-        && write_bytes(one)
-        && io::write_all(STDOUT_FILENO, b"\n")
 }
 
-fn write_turboshake128(message: &[u8]) -> bool {
-    let mut run = [0u8; 32];
-    let mut one = [0u8; 32];
-    let is_done = turboshake128(message, &mut run, &mut one);
-    write_line(b"TurboSHAKE128", is_done, &run, &one)
+fn turboshake256(a: &[u8], b: &[u8], x: &mut [u8], y: &mut [u8], z: &mut [u8]) -> Statuses {
+    let first = TurboShake256::fresh().absorb(a);
+    let begun = first.hasher;
+    let second = begun.absorb(b);
+    let open = second.hasher;
+    let closed = open.finalize(DOMAIN);
+    let full = closed.hasher;
+    let given = full.squeeze(x);
+    let read = given.hasher;
+    let rest = read.squeeze(y);
+    let end = rest.hasher;
+    let more = end.squeeze(z);
+    let past = more.hasher;
+    let late = past.absorb(b);
+    Statuses {
+        first: first.status,
+        second: second.status,
+        closed: closed.status,
+        given: given.status,
+        rest: rest.status,
+        more: more.status,
+        late: late.status,
+    }
 }
 
-fn write_turboshake256(message: &[u8]) -> bool {
-    let mut run = [0u8; 64];
-    let mut one = [0u8; 64];
-    let is_done = turboshake256(message, &mut run, &mut one);
-    write_line(b"TurboSHAKE256", is_done, &run, &one)
+fn sha3_224(a: &[u8], b: &[u8], x: &mut [u8], y: &mut [u8], z: &mut [u8]) -> Statuses {
+    let first = Sha3_224::fresh().absorb(a);
+    let begun = first.hasher;
+    let second = begun.absorb(b);
+    let open = second.hasher;
+    let closed = open.finalize();
+    let full = closed.hasher;
+    let given = full.squeeze(x);
+    let read = given.hasher;
+    let rest = read.squeeze(y);
+    let end = rest.hasher;
+    let more = end.squeeze(z);
+    let past = more.hasher;
+    let late = past.absorb(b);
+    Statuses {
+        first: first.status,
+        second: second.status,
+        closed: closed.status,
+        given: given.status,
+        rest: rest.status,
+        more: more.status,
+        late: late.status,
+    }
 }
 
-fn write_sha3_224(message: &[u8]) -> bool {
-    let mut run = [0u8; 28];
-    let mut one = [0u8; 28];
-    let is_done = sha3_224(message, &mut run, &mut one);
-    write_line(b"SHA3-224", is_done, &run, &one)
+fn sha3_256(a: &[u8], b: &[u8], x: &mut [u8], y: &mut [u8], z: &mut [u8]) -> Statuses {
+    let first = Sha3_256::fresh().absorb(a);
+    let begun = first.hasher;
+    let second = begun.absorb(b);
+    let open = second.hasher;
+    let closed = open.finalize();
+    let full = closed.hasher;
+    let given = full.squeeze(x);
+    let read = given.hasher;
+    let rest = read.squeeze(y);
+    let end = rest.hasher;
+    let more = end.squeeze(z);
+    let past = more.hasher;
+    let late = past.absorb(b);
+    Statuses {
+        first: first.status,
+        second: second.status,
+        closed: closed.status,
+        given: given.status,
+        rest: rest.status,
+        more: more.status,
+        late: late.status,
+    }
 }
 
-fn write_sha3_256(message: &[u8]) -> bool {
-    let mut run = [0u8; 32];
-    let mut one = [0u8; 32];
-    let is_done = sha3_256(message, &mut run, &mut one);
-    write_line(b"SHA3-256", is_done, &run, &one)
+fn sha3_384(a: &[u8], b: &[u8], x: &mut [u8], y: &mut [u8], z: &mut [u8]) -> Statuses {
+    let first = Sha3_384::fresh().absorb(a);
+    let begun = first.hasher;
+    let second = begun.absorb(b);
+    let open = second.hasher;
+    let closed = open.finalize();
+    let full = closed.hasher;
+    let given = full.squeeze(x);
+    let read = given.hasher;
+    let rest = read.squeeze(y);
+    let end = rest.hasher;
+    let more = end.squeeze(z);
+    let past = more.hasher;
+    let late = past.absorb(b);
+    Statuses {
+        first: first.status,
+        second: second.status,
+        closed: closed.status,
+        given: given.status,
+        rest: rest.status,
+        more: more.status,
+        late: late.status,
+    }
 }
 
-fn write_sha3_384(message: &[u8]) -> bool {
-    let mut run = [0u8; 48];
-    let mut one = [0u8; 48];
-    let is_done = sha3_384(message, &mut run, &mut one);
-    write_line(b"SHA3-384", is_done, &run, &one)
+fn sha3_512(a: &[u8], b: &[u8], x: &mut [u8], y: &mut [u8], z: &mut [u8]) -> Statuses {
+    let first = Sha3_512::fresh().absorb(a);
+    let begun = first.hasher;
+    let second = begun.absorb(b);
+    let open = second.hasher;
+    let closed = open.finalize();
+    let full = closed.hasher;
+    let given = full.squeeze(x);
+    let read = given.hasher;
+    let rest = read.squeeze(y);
+    let end = rest.hasher;
+    let more = end.squeeze(z);
+    let past = more.hasher;
+    let late = past.absorb(b);
+    Statuses {
+        first: first.status,
+        second: second.status,
+        closed: closed.status,
+        given: given.status,
+        rest: rest.status,
+        more: more.status,
+        late: late.status,
+    }
 }
 
-fn write_sha3_512(message: &[u8]) -> bool {
-    let mut run = [0u8; 64];
-    let mut one = [0u8; 64];
-    let is_done = sha3_512(message, &mut run, &mut one);
-    write_line(b"SHA3-512", is_done, &run, &one)
+fn shake128(a: &[u8], b: &[u8], x: &mut [u8], y: &mut [u8], z: &mut [u8]) -> Statuses {
+    let first = Shake128::fresh().absorb(a);
+    let begun = first.hasher;
+    let second = begun.absorb(b);
+    let open = second.hasher;
+    let closed = open.finalize();
+    let full = closed.hasher;
+    let given = full.squeeze(x);
+    let read = given.hasher;
+    let rest = read.squeeze(y);
+    let end = rest.hasher;
+    let more = end.squeeze(z);
+    let past = more.hasher;
+    let late = past.absorb(b);
+    Statuses {
+        first: first.status,
+        second: second.status,
+        closed: closed.status,
+        given: given.status,
+        rest: rest.status,
+        more: more.status,
+        late: late.status,
+    }
 }
 
-fn write_shake128(message: &[u8]) -> bool {
-    let mut run = [0u8; 32];
-    let mut one = [0u8; 32];
-    let is_done = shake128(message, &mut run, &mut one);
-    write_line(b"SHAKE128", is_done, &run, &one)
+fn shake256(a: &[u8], b: &[u8], x: &mut [u8], y: &mut [u8], z: &mut [u8]) -> Statuses {
+    let first = Shake256::fresh().absorb(a);
+    let begun = first.hasher;
+    let second = begun.absorb(b);
+    let open = second.hasher;
+    let closed = open.finalize();
+    let full = closed.hasher;
+    let given = full.squeeze(x);
+    let read = given.hasher;
+    let rest = read.squeeze(y);
+    let end = rest.hasher;
+    let more = end.squeeze(z);
+    let past = more.hasher;
+    let late = past.absorb(b);
+    Statuses {
+        first: first.status,
+        second: second.status,
+        closed: closed.status,
+        given: given.status,
+        rest: rest.status,
+        more: more.status,
+        late: late.status,
+    }
 }
 
-fn write_shake256(message: &[u8]) -> bool {
-    let mut run = [0u8; 64];
-    let mut one = [0u8; 64];
-    let is_done = shake256(message, &mut run, &mut one);
-    write_line(b"SHAKE256", is_done, &run, &one)
+fn write_turboshake128(message: &[u8]) -> bool
+    requires { ⌜ 67 ≤ length (now message) ⌝ }
+{
+    let mut x = [BEFORE; 10];
+    let mut y = [BEFORE; 22];
+    let mut z = [BEFORE; 1];
+    let mut one = [BEFORE; 32];
+    let mut long = [BEFORE; 33];
+    let run = turboshake128(&message[0..67], &message[67..], &mut x, &mut y, &mut z);
+    let hashed = TurboShake128::hash(message, DOMAIN, &mut one);
+    let longer = TurboShake128::hash(message, DOMAIN, &mut long);
+    line::write_line(
+        b"TurboSHAKE128",
+        run,
+        hashed,
+        longer,
+        &x,
+        &y,
+        &z,
+        &one,
+        &long,
+    )
+}
+
+fn write_turboshake256(message: &[u8]) -> bool
+    requires { ⌜ 67 ≤ length (now message) ⌝ }
+{
+    let mut x = [BEFORE; 10];
+    let mut y = [BEFORE; 54];
+    let mut z = [BEFORE; 1];
+    let mut one = [BEFORE; 64];
+    let mut long = [BEFORE; 65];
+    let run = turboshake256(&message[0..67], &message[67..], &mut x, &mut y, &mut z);
+    let hashed = TurboShake256::hash(message, DOMAIN, &mut one);
+    let longer = TurboShake256::hash(message, DOMAIN, &mut long);
+    line::write_line(
+        b"TurboSHAKE256",
+        run,
+        hashed,
+        longer,
+        &x,
+        &y,
+        &z,
+        &one,
+        &long,
+    )
+}
+
+fn write_sha3_224(message: &[u8]) -> bool
+    requires { ⌜ 67 ≤ length (now message) ⌝ }
+{
+    let mut x = [BEFORE; 10];
+    let mut y = [BEFORE; 18];
+    let mut z = [BEFORE; 1];
+    let mut one = [BEFORE; 28];
+    let mut long = [BEFORE; 29];
+    let run = sha3_224(&message[0..67], &message[67..], &mut x, &mut y, &mut z);
+    let hashed = Sha3_224::hash(message, &mut one);
+    let longer = Sha3_224::hash(message, &mut long);
+    line::write_line(b"SHA3-224", run, hashed, longer, &x, &y, &z, &one, &long)
+}
+
+fn write_sha3_256(message: &[u8]) -> bool
+    requires { ⌜ 67 ≤ length (now message) ⌝ }
+{
+    let mut x = [BEFORE; 10];
+    let mut y = [BEFORE; 22];
+    let mut z = [BEFORE; 1];
+    let mut one = [BEFORE; 32];
+    let mut long = [BEFORE; 33];
+    let run = sha3_256(&message[0..67], &message[67..], &mut x, &mut y, &mut z);
+    let hashed = Sha3_256::hash(message, &mut one);
+    let longer = Sha3_256::hash(message, &mut long);
+    line::write_line(b"SHA3-256", run, hashed, longer, &x, &y, &z, &one, &long)
+}
+
+fn write_sha3_384(message: &[u8]) -> bool
+    requires { ⌜ 67 ≤ length (now message) ⌝ }
+{
+    let mut x = [BEFORE; 10];
+    let mut y = [BEFORE; 38];
+    let mut z = [BEFORE; 1];
+    let mut one = [BEFORE; 48];
+    let mut long = [BEFORE; 49];
+    let run = sha3_384(&message[0..67], &message[67..], &mut x, &mut y, &mut z);
+    let hashed = Sha3_384::hash(message, &mut one);
+    let longer = Sha3_384::hash(message, &mut long);
+    line::write_line(b"SHA3-384", run, hashed, longer, &x, &y, &z, &one, &long)
+}
+
+fn write_sha3_512(message: &[u8]) -> bool
+    requires { ⌜ 67 ≤ length (now message) ⌝ }
+{
+    let mut x = [BEFORE; 10];
+    let mut y = [BEFORE; 54];
+    let mut z = [BEFORE; 1];
+    let mut one = [BEFORE; 64];
+    let mut long = [BEFORE; 65];
+    let run = sha3_512(&message[0..67], &message[67..], &mut x, &mut y, &mut z);
+    let hashed = Sha3_512::hash(message, &mut one);
+    let longer = Sha3_512::hash(message, &mut long);
+    line::write_line(b"SHA3-512", run, hashed, longer, &x, &y, &z, &one, &long)
+}
+
+fn write_shake128(message: &[u8]) -> bool
+    requires { ⌜ 67 ≤ length (now message) ⌝ }
+{
+    let mut x = [BEFORE; 10];
+    let mut y = [BEFORE; 22];
+    let mut z = [BEFORE; 1];
+    let mut one = [BEFORE; 32];
+    let mut long = [BEFORE; 33];
+    let run = shake128(&message[0..67], &message[67..], &mut x, &mut y, &mut z);
+    let hashed = Shake128::hash(message, &mut one);
+    let longer = Shake128::hash(message, &mut long);
+    line::write_line(b"SHAKE128", run, hashed, longer, &x, &y, &z, &one, &long)
+}
+
+fn write_shake256(message: &[u8]) -> bool
+    requires { ⌜ 67 ≤ length (now message) ⌝ }
+{
+    let mut x = [BEFORE; 10];
+    let mut y = [BEFORE; 54];
+    let mut z = [BEFORE; 1];
+    let mut one = [BEFORE; 64];
+    let mut long = [BEFORE; 65];
+    let run = shake256(&message[0..67], &message[67..], &mut x, &mut y, &mut z);
+    let hashed = Shake256::hash(message, &mut one);
+    let longer = Shake256::hash(message, &mut long);
+    line::write_line(b"SHAKE256", run, hashed, longer, &x, &y, &z, &one, &long)
 }
 
 fn main() {
