@@ -62,7 +62,7 @@ turboHasher =
     0x1F
     (turboshake-claims.domain-taken 0x1F (omega arith) (omega arith))
     (λ m n. turboshake128 m 0x1F n)
-    (λ m n. turboshake-claims.claims128 .published m 0x1F n)
+    (λ m n. turboshake-claims.claims .turboshake128 .published m 0x1F n)
 
 abbrev pub sha3Hasher : Hasher (Unit {0}) Run Answer
 sha3Hasher =

@@ -10,7 +10,8 @@ use Rattle.sponge.specs.Published.{sponge}
 unfoldable pub keccak : ℕ → List ℕ → ℕ → ℕ → List ℕ
 keccak c m last n = sponge (lastRounds 24) (200 - c) m last n
 
--- SHA-3 with a digest of n bytes (section 6.1): KECCAK[c](M || 01), c twice the digest. Its first k bytes
+-- SHA-3 with a digest of n bytes (section 6.1): KECCAK[c](M || 01), c twice the digest. Of k bytes: at k = n it is the digest, below it its first bytes;
+-- above it no function of the standard, and no call reads so far
 unfoldable pub sha3 : ℕ → List ℕ → ℕ → List ℕ
 sha3 n m k = keccak (2 * n) m 0x06 k
 

@@ -21,7 +21,8 @@ use sponge::status::DONE;
 use turboshake::TurboShake128;
 use turboshake::TurboShake256;
 
-// The rate, the rounds and the read limit; and the byte after the message, which is the close's domain byte where the function has one.
+// The rate, the rounds and the read limit; whether the close gives the byte after the message, as TurboSHAKE's domain byte; and that byte where it
+// does not (0, and not looked at, where it does).
 pub struct Function {
     pub rate: usize,
     pub rounds: usize,

@@ -9,7 +9,8 @@ use native.Mathlib.Omega.{arith}
 use lib.ListN.{length}
 use lib.Dec.{T, eqb, leb}
 use borrow.Author.Tests.{eq-eqb, ne-eqb, eqb-true, le-leb, leb-true}
-use Rattle.sponge.specs.Published.{xorByte}
+use Rattle.keccak.specs.Permutation.{lastRounds}
+use Rattle.sponge.specs.Published.{xorByte, sponge}
 use Rattle.sponge.specs.Waiting.{positionAfter}
 use Rattle.sponge.specs.Model.{Sponge, fresh, absorbBytes, pad, squeezeBytes}
 use Rattle.sponge.specs.Transcript.{Call, Call.absorb, Call.customize, Call.finalize, Call.finish, Call.squeeze, Phase, Phase.absorbing, Phase.customizing, Phase.squeezing, statusOf}
@@ -38,6 +39,11 @@ pub first-is : (a b : ℕ) → a ∷ [] ≡ b ∷ [] → a ≡ b
 first-is a b e = cc e
 
 module _ {A : Type 0} (F : Function A) where
+  -- the output is the published sponge's, for crates above
+  pub output-is : (m : List ℕ) (a : A) (n : ℕ) → output F m a n ≡ sponge (lastRounds (F .rounds)) (F .rate) m (F .byte a) n
+  unfolding output
+  output-is m a n = refl
+
   -- ---- the test of status 5 says what Shape says
 
   shape-by : (s : Sponge) (h n k : ℕ) → reachable (F .rate) (F .outputLimit) (s .position) h n k ≡ true

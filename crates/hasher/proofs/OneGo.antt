@@ -61,7 +61,7 @@ module _ (rate rounds limit : ℕ) (m : List ℕ) (s d : ℕ) (out : List ℕ) w
 
     pub at-untouched : out ≡ hashAtOutput rate rounds limit m s d out
     unfolding hashAtOutput
-    at-untouched = lent-refused (hashAtStatus rate rounds limit (length m) s (length out)) (λ z. h (at-refused ∙ z)) _ out
+    at-untouched = rw (← e) (lent-refused n h (hashOutput rate rounds limit m s d out) out)
 
   module _ (taken : callStatus rounds rate 0 ≡ 0) where
     pub at-status : hashStatus limit (length m) s (length out) ≡ hashAtStatus rate rounds limit (length m) s (length out)
@@ -69,8 +69,8 @@ module _ (rate rounds limit : ℕ) (m : List ℕ) (s d : ℕ) (out : List ℕ) w
     at-status = rw taken
 
     pub at-output : hashOutput rate rounds limit m s d out ≡ hashAtOutput rate rounds limit m s d out
-    unfolding hashAtOutput hashOutput
-    at-output = rw (← at-status)
+    unfolding hashAtOutput
+    at-output = rw taken
 
     -- within the limits: the published output
     pub at-written : s ≡ 0 → length m ≤ messageLimit → 0 < length out → length out ≤ limit → hashAtOutput rate rounds limit m s d out ≡ sponge (lastRounds rounds) rate m d (length out)

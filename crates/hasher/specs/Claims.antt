@@ -18,14 +18,14 @@ use Rattle.hasher.specs.declared.Run.{Run}
 
 module _ {A : Type 0} (F : Function A) where
   -- what a function owes: a rate and a number of rounds that are taken, an argument of the close that is and whose byte is one, that no argument
-  -- answers 5, and a read limit that a word holds
+  -- answers 5, and a read limit below 2^63, so that one read can ask for all of it
   pub record Meets : Type 0 where
     pub taken : callStatus (F .rounds) (F .rate) 0 ≡ 0
     pub some : A
     pub some-taken : F .argument some ≡ 0
     pub some-byte : F .byte some < 256
     pub no-five : (a : A) → F .argument a ≡ unreachable → ⊥
-    pub limit-fits : F .outputLimit < 2 ^ 64
+    pub limit-fits : F .outputLimit < 2 ^ 63
 
   -- ---- lists of calls from a fresh run
 
@@ -84,7 +84,7 @@ module _ {A : Type 0} (F : Function A) where
   Callable (customize p) = ⊥
   Callable (finalize a) = F .byte a < 256
   Callable finish = ⊥
-  Callable (squeeze k) = k < 2 ^ 64
+  Callable (squeeze k) = k < 2 ^ 63
 
   -- a list of such calls leaves r's phase, totals and position
   pub record Reached (r : Run) : Type 0 where
@@ -95,10 +95,11 @@ module _ {A : Type 0} (F : Function A) where
     pub squeezed-is : ran calls .left .squeezed ≡ r .squeezed
     pub position-is : ran calls .left .position ≡ r .position
 
-  -- 5 exactly where there is none
+  -- 5 exactly where there is none; and where it is another status, here is one
   pub record Five : Type 0 where
     pub five-unreached : (r : Run) (c : Call A) → answer F r c .status ≡ unreachable → Reached r → ⊥
     pub unreached-five : (r : Run) (c : Call A) → (Reached r → ⊥) → answer F r c .status ≡ unreachable
+    pub other-reached : (r : Run) (c : Call A) → (answer F r c .status ≡ unreachable → ⊥) → Reached r
 
   -- ---- in one go
 

@@ -18,8 +18,8 @@ use Rattle.hasher.specs.declared.Run.{Run}
 use Rattle.hasher.specs.declared.Moved.{Moved}
 use Rattle.hasher.specs.declared.Answer.{Answer}
 
--- what a run reached from a fresh one has: in phase 0 nothing is squeezed and the position tells the bytes absorbed, in phase 1
--- it tells the bytes squeezed; lanes are not looked at
+-- what a run reached from a fresh one has: in phase 0 nothing is squeezed and the position is the one after the bytes absorbed, in phase 1
+-- after the bytes squeezed; lanes are not looked at
 unfoldable pub reachable : ℕ → ℕ → ℕ → ℕ → ℕ → ℕ → Bool
 reachable rate limit position phase absorbed squeezed =
     leb absorbed messageLimit
@@ -131,7 +131,7 @@ unfoldable pub hashAtStatus : ℕ → ℕ → ℕ → ℕ → ℕ → ℕ → �
 hashAtStatus rate rounds limit m s n = firstOf (callStatus rounds rate 0) (hashStatus limit m s n)
 
 unfoldable pub hashAtOutput : ℕ → ℕ → ℕ → List ℕ → ℕ → ℕ → List ℕ → List ℕ
-hashAtOutput rate rounds limit m s d out = lent (hashAtStatus rate rounds limit (length m) s (length out)) (sponge (lastRounds rounds) rate m d (length out)) out
+hashAtOutput rate rounds limit m s d out = lent (callStatus rounds rate 0) (hashOutput rate rounds limit m s d out) out
 
 -- of the function F, closed with a
 module _ {A : Type 0} (F : Function A) where

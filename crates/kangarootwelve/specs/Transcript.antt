@@ -31,7 +31,7 @@ Callable (absorb p) = Slice p
 Callable (customize p) = Slice p
 Callable (finalize c) = Slice c
 Callable finish = Unit {0}
-Callable (squeeze k) = k < 2 ^ 64
+Callable (squeeze k) = k < 2 ^ 63
 
 -- the published function, the status of C, and the limits; any piece is taken; C is taken in pieces too, and is what they are, joined; the
 -- bytes absorbed are those of M alone

@@ -55,10 +55,11 @@ module _ {S A : Type 0} (U : Rules A) (M : Machine S A) where
         → M .customized (perform U M r (customize p) .left .state) ≡ M .customized (r .state) + length p
 
 module _ {S A : Type 0} (U : Rules A) (M : Machine S A) (positions : S → List ℕ) (can : Call A → Type 0) where
-  -- status 5 exactly when no list of calls from a fresh run reaches this phase, these totals and these positions
+  -- status 5 exactly when no list of calls from a fresh run reaches this phase, these totals and these positions; where it is another, here is one
   pub record Five : Type 0 where
     pub five-unreached : (r : Run S) (c : Call A) → perform U M r c .status ≡ unreachable → Reached U M positions can r → ⊥
     pub unreached-five : (r : Run S) (c : Call A) → (Reached U M positions can r → ⊥) → perform U M r c .status ≡ unreachable
+    pub other-reached : (r : Run S) (c : Call A) → (perform U M r c .status ≡ unreachable → ⊥) → Reached U M positions can r
 
   pub record Corollaries : Type 0 where
     pub streaming : (cs : List (Call A)) → Streaming U M cs
@@ -112,6 +113,13 @@ module _ {S A : Type 0} (U : Rules A) (M : Machine S A) (L : generic.Laws U M) (
       by true e = absurd (g (reachable-reached U M L positions due shape shaped can O r e))
       by false e = five-status U M (O .piece-other) (O .argument-other) r c e
 
+  other-reached : (r : Run S) (c : Call A) → (perform U M r c .status ≡ unreachable → ⊥) → Reached U M positions can r
+  other-reached r c g = by (M .reachable r) refl
+    where
+      by : (t : Bool) → M .reachable r ≡ t → Reached U M positions can r
+      by true e = reachable-reached U M L positions due shape shaped can O r e
+      by false e = absurd (g (five-status U M (O .piece-other) (O .argument-other) r c e))
+
   pub corollaries : Corollaries U M positions can
   corollaries = record {
     streaming = generic.streaming U M L;
@@ -119,7 +127,7 @@ module _ {S A : Type 0} (U : Rules A) (M : Machine S A) (L : generic.Laws U M) (
     joins = joins;
     closes = closes;
     refusals = record { refused = joining.refused U M; absorb-grows = joining.absorb-grows U M; customize-grows = joining.customize-grows U M L };
-    five = record { five-unreached = five-unreached; unreached-five = unreached-five };
+    five = record { five-unreached = five-unreached; unreached-five = unreached-five; other-reached = other-reached };
   }
 
 -- ---- a list of calls on runs held in another form: g does to `held x` what f does to x

@@ -10,7 +10,7 @@ use native.Mathlib.Omega.{arith}
 use lib.ListN.{length, length-append}
 use lib.Dec.{eqb, leb}
 use borrow.Author.Tests.{eq-eqb, ne-eqb, le-leb}
-use Rattle.sponge.specs.Transcript.{Call, Call.absorb, Call.customize, Call.finalize, Call.finish, Call.squeeze, Transcript, Customization.upTo, Rules, Reply, statusOf, statusAt, given, written, transcribe}
+use Rattle.sponge.specs.Transcript.{Call, Call.absorb, Call.customize, Call.finalize, Call.finish, Call.squeeze, Transcript, Customization.upTo, Rules, Reply, statusOf, statusAt, given, written, transcribe, reply}
 use Rattle.sponge.specs.Runs.{Run, Machine, worked, bytesOut, runStatus, perform, runOf}
 use Rattle.sponge.specs.Streaming.{history, joined, told, ran}
 use Rattle.sponge.proofs.Streaming.{nothing, Customizes, Laws, owed, streaming}
@@ -24,6 +24,11 @@ customizes (p ∷ ps) = customize p ∷ customizes ps
 
 module _ {S A : Type 0} (U : Rules A) (M : Machine S A) where
   -- a call by its status
+  -- what a call does, for crates above
+  pub perform-is : (r : Run S) (c : Call A) → perform U M r c ≡ reply (runStatus U M r c) (bytesOut U M r c) (worked U M r c) r
+  unfolding perform
+  perform-is r c = refl
+
   pub perform-done : (r : Run S) (c : Call A) → runStatus U M r c ≡ 0 → perform U M r c ≡ record { status = 0; bytes = bytesOut U M r c; left = worked U M r c }
   unfolding perform
   perform-done r c e = rw e

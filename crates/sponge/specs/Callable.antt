@@ -9,9 +9,9 @@ abbrev pub Bytes : List ℕ → Type 0
 Bytes [] = Unit {0}
 Bytes (b ∷ s) = (b < 256) × Bytes s
 
--- bytes, as many as a slice holds
+-- bytes, as many as a slice holds: fewer than 2^63
 abbrev pub Slice : List ℕ → Type 0
-Slice s = Bytes s × (length s < 2 ^ 64)
+Slice s = Bytes s × (length s < 2 ^ 63)
 
 abbrev pub All : {A : Type 0} → (Call A → Type 0) → List (Call A) → Type 0
 All can [] = Unit {0}

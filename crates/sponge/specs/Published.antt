@@ -1,5 +1,6 @@
 -- The sponge by blocks, as draft-irtf-cfrg-kangarootwelve-16 words it in section 2.2: over a permutation of 25 lanes, a rate in
--- bytes and the byte that follows the message. A byte string is a list of numbers below 256.
+-- bytes and the byte that follows the message. A byte string is a list of numbers below 256. Of whole bytes it is SPONGE of FIPS 202, section 4, too, with
+-- pad10*1 of section 5.1, whose first bit is in the byte that follows the message.
 -- Assumes nothing.
 use mathlib.Core.List.{List, [], _∷_, _++_}
 use Prim.Native.Nat.{ℕ, zero, suc, _-_, _*_, _/_, _%_, _^_}

@@ -1,5 +1,5 @@
 // The numbers of document 01's table that calls on runs and in one go answer; specs/Status.antt says when.
-pub const DONE: u8 = 0;
+pub const DONE: u8 = keccak::DONE;
 
 pub const BAD_DOMAIN: u8 = 1;
 

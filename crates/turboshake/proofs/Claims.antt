@@ -8,12 +8,12 @@ use borrow.Author.Tests.{le-leb}
 use lib.Dec.{leb}
 use Rattle.sponge.specs.Status.{unreachable}
 use Rattle.sponge.proofs.Valid.{fits-valid}
-use Rattle.hasher.specs.Function.{output}
 use Rattle.hasher.specs.Claims.{Meets}
+use Rattle.hasher.proofs.Laws.{output-is}
 use Rattle.hasher.proofs.Claims as hasher
 use Rattle.turboshake.specs.Published.{turboshakeRounds, turboshake}
 use Rattle.turboshake.specs.Transcript.{domainStatus, function}
-use Rattle.turboshake.specs.Claims.{Claims}
+use Rattle.turboshake.specs.Claims.{At, Claims}
 
 pub domain-taken : (d : ℕ) → 0 < d → d ≤ 0x7F → domainStatus d ≡ 0
 unfolding domainStatus
@@ -37,12 +37,9 @@ meets rate pos most = record {
   limit-fits = omega arith;
 }
 
-pub claims : (rate : ℕ) → 0 < rate → rate ≤ 200 → Claims rate
-unfolding output turboshake
-claims rate pos most = record { runs = hasher.claims (function rate) (meets rate pos most); published = λ m d n. refl }
+at : (rate : ℕ) → 0 < rate → rate ≤ 200 → At rate
+unfolding turboshake
+at rate pos most = record { runs = hasher.claims (function rate) (meets rate pos most); published = output-is (function rate) }
 
-pub claims128 : Claims 168
-claims128 = claims 168 (omega arith) (omega arith)
-
-pub claims256 : Claims 136
-claims256 = claims 136 (omega arith) (omega arith)
+pub claims : Claims
+claims = record { turboshake128 = at 168 (omega arith) (omega arith); turboshake256 = at 136 (omega arith) (omega arith) }

@@ -1,4 +1,4 @@
-// Runs each type's own calls, once to the end and past it. Writes a line for each function: a digit for the status of each call, the bytes of the run,
+// Runs each type's own calls: on a run of 32 or 64 bytes of output, of SHA-3 the digest, and one byte more, and in one go. Writes a line for each function: a digit for the status of each call, the bytes of the run,
 // the byte that follows them, the bytes of the call in one go, and those of one that asks for a byte more. Each buffer held A5 in every byte before.
 mod line;
 
