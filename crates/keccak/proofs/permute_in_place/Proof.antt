@@ -1,7 +1,7 @@
 -- `keccak::permute_in_place` meets its contract. The loop's invariant: the rounds that are left, done to `a`, give the result.
 -- Assumes nothing.
 use mathlib.Core.Path.{_≡_, refl}
-use Prim.Native.Nat.{_≤_, _-_}
+use Prim.Native.Nat.{_≤_, _<_, _-_}
 use native.Mathlib.Omega.{arith}
 use borrow.Author.Needs.{needs}
 use lib.ListN.{drop}
@@ -19,12 +19,14 @@ abbrev μ-loop : tie.MeasureT-loop
 returns : tie.Need-returns Inv-loop μ-loop
 returns c =
     let a = c .before .args in
-    (too-many (a .rounds) (c .if1 .taken), last-none (a .rounds) (a .lanes .now) (c .if1 .taken))
+    let h : 24 < a .rounds = omega arith in
+    (too-many (a .rounds) h, last-none (a .rounds) (a .lanes .now) h)
 
 loop-holds : tie.Need-loop-holds Inv-loop μ-loop
 loop-holds c =
     let a = c .before .before .args in
-    (omega arith, last-rounds (a .rounds) (a .lanes .now) (c .before .if1 .left))
+    let h : a .rounds ≤ 24 = omega arith in
+    (omega arith, last-rounds (a .rounds) (a .lanes .now) h)
 
 loop-again : tie.Need-loop-again Inv-loop μ-loop
 loop-again c =
