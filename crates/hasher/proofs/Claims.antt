@@ -7,7 +7,7 @@ use native.Mathlib.Omega.{arith}
 use lib.ListN.{length, take, length-append}
 use lib.Seq.{take-append-seam}
 use Rattle.sponge.specs.Status.{unreachable}
-use Rattle.sponge.specs.Model.{Sponge, callStatus}
+use Rattle.sponge.specs.Model.{Sponge}
 use Rattle.sponge.specs.Transcript.{Call, Call.absorb, Call.squeeze, Transcript, Reply, lent}
 use Rattle.sponge.specs.Runs as runs
 use Rattle.sponge.specs.Runs.{freshRun, perform, runOf}
@@ -17,11 +17,12 @@ use Rattle.sponge.proofs.Corollaries.{history-held}
 use Rattle.sponge.proofs.Reachable as generic
 use Rattle.sponge.proofs.Done as done
 use Rattle.hasher.specs.Function.{Function, output, rules}
-use Rattle.hasher.specs.Model.{machine, seen, held, freshOf, performOf, writtenOf, answer, written, replyOf, hashStatus, hashOutput, hashAtStatus, hashAtOutput, oneGoStatus, oneGoOutput}
+use Rattle.hasher.specs.Model.{machine, seen, held, freshOf, performOf, writtenOf, answer, written, replyOf, oneGoStatus, oneGoOutput}
 use Rattle.hasher.specs.Claims.{Meets, told, ran, Streaming, Calls, Joins, Callable, Reached, Five, OneGo, Claims}
 use Rattle.hasher.specs.declared.Run.{Run}
 use Rattle.hasher.specs.declared.Answer.{Answer}
-use Rattle.hasher.proofs.Guards.{lent-both, answer-is, output-is, answer-same, written-same}
+use Rattle.hasher.proofs.Guards.{answer-is, output-is, answer-same, written-same}
+use Rattle.hasher.proofs.OneGo.{at-lent}
 use Rattle.hasher.proofs.Laws.{positions, first-is, laws, stays}
 use Rattle.hasher.proofs.Streaming.{positive, corollaries}
 
@@ -211,8 +212,8 @@ module _ {A : Type 0} (F : Function A) (E : Meets F) where
   -- ---- in one go
 
   go-lent : (m : List ℕ) (a : A) (out : List ℕ) → oneGoOutput F m a out ≡ lent (oneGoStatus F (length m) a (length out)) (output F m a (length out)) out
-  unfolding hashAtOutput hashOutput hashAtStatus output
-  go-lent m a out = lent-both (callStatus (F .rounds) (F .rate) 0) (hashStatus (F .outputLimit) (length m) (F .argument a) (length out)) (output F m a (length out)) out
+  unfolding output
+  go-lent m a out = at-lent (F .rate) (F .rounds) (F .outputLimit) m (F .argument a) (F .byte a) out
 
   one-go : OneGo F
   one-go = record {

@@ -8,6 +8,7 @@ use borrow.Author.Tests.{eq-eqb, ne-eqb, le-leb, lt-leb}
 use lib.ListN.{length, replicate}
 use Rattle.keccak.specs.Permutation.{roundsStatus, lastRounds}
 use Rattle.sponge.specs.Published.{xorByte, sponge}
+use Rattle.sponge.specs.Transcript.{lent}
 use Rattle.sponge.specs.Model.{Sponge, fresh, absorbBytes, pad, squeezeBytes, callStatus, Outcome, absorbCall, padCall, squeezeCall, squeezeOutput}
 use Rattle.sponge.proofs.FirstStatus.{first-refused}
 use Rattle.sponge.proofs.Position.{steps-position}
@@ -16,7 +17,7 @@ use Rattle.sponge.proofs.Valid.{fits-valid, absorb-done, pad-done, squeeze-done
 use Rattle.hasher.specs.Function.{messageLimit}
 use Rattle.hasher.specs.Model.{hashStatus, hashOutput, hashAtStatus, hashAtOutput}
 use Rattle.hasher.proofs.Cases.{position-le}
-use Rattle.hasher.proofs.Guards.{lent-refused}
+use Rattle.hasher.proofs.Guards.{lent-refused, lent-both}
 
 -- ---- the status
 
@@ -62,6 +63,11 @@ module _ (rate rounds limit : ℕ) (m : List ℕ) (s d : ℕ) (out : List ℕ) w
     pub at-untouched : out ≡ hashAtOutput rate rounds limit m s d out
     unfolding hashAtOutput
     at-untouched = rw (← e) (lent-refused n h (hashOutput rate rounds limit m s d out) out)
+
+  -- done or refused, by the one status
+  pub at-lent : hashAtOutput rate rounds limit m s d out ≡ lent (hashAtStatus rate rounds limit (length m) s (length out)) (sponge (lastRounds rounds) rate m d (length out)) out
+  unfolding hashAtOutput hashOutput hashAtStatus
+  at-lent = lent-both (callStatus rounds rate 0) (hashStatus limit (length m) s (length out)) (sponge (lastRounds rounds) rate m d (length out)) out
 
   module _ (taken : callStatus rounds rate 0 ≡ 0) where
     pub at-status : hashStatus limit (length m) s (length out) ≡ hashAtStatus rate rounds limit (length m) s (length out)

@@ -7,7 +7,7 @@ use Prim.Native.Nat.{ℕ, zero, suc, _≤_, _<_}
 use native.Mathlib.Omega.{arith}
 use lib.ListN.{length, replicate}
 use lib.Dec.{leb}
-use borrow.Author.Tests.{leb-true, le-leb}
+use borrow.Author.Tests.{leb-true, le-leb, lt-leb}
 use Rattle.keccak.specs.Permutation.{roundsStatus, lastRounds}
 use Rattle.sponge.specs.Published.{zeroLanes}
 use Rattle.sponge.specs.Status.{done, unreachable}
@@ -38,6 +38,20 @@ taken-rounds rounds rate position e = first-zero (roundsStatus rounds) _ e .0
 pub fits-valid : (rounds rate position : ℕ) → roundsStatus rounds ≡ 0 → position ≤ rate → 0 < rate → rate ≤ 200 → callStatus rounds rate position ≡ 0
 unfolding callStatus valid
 fits-valid rounds rate position n h g f = rw (n, le-leb 1 rate g, le-leb rate 200 f, le-leb position rate h)
+
+-- ---- the status, by its cases
+
+pub call-16 : (rounds rate position : ℕ) → 24 < rounds → 16 ≡ callStatus rounds rate position
+unfolding callStatus
+call-16 rounds rate position h = rw (lt-leb rounds 24 h)
+
+pub call-5 : (rounds rate position : ℕ) → rounds ≤ 24 → valid rate position ≡ false → 5 ≡ callStatus rounds rate position
+unfolding callStatus
+call-5 rounds rate position h e = rw (le-leb rounds 24 h, e)
+
+pub call-0 : (rounds rate position : ℕ) → rounds ≤ 24 → valid rate position ≡ true → 0 ≡ callStatus rounds rate position
+unfolding callStatus
+call-0 rounds rate position h e = rw (le-leb rounds 24 h, e)
 
 -- ---- done
 
