@@ -39,19 +39,19 @@ pub fits-valid : (rounds rate position : ℕ) → roundsStatus rounds ≡ 0 → 
 unfolding callStatus valid
 fits-valid rounds rate position n h g f = rw (n, le-leb 1 rate g, le-leb rate 200 f, le-leb position rate h)
 
--- ---- the status, by its cases
+-- ---- the status n, by its cases; the number is a fact of its own, so that a wrong one is refused as that
 
-pub call-16 : (rounds rate position : ℕ) → 24 < rounds → 16 ≡ callStatus rounds rate position
+pub call-16 : (n rounds rate position : ℕ) → n ≡ 16 → 24 < rounds → n ≡ callStatus rounds rate position
 unfolding callStatus
-call-16 rounds rate position h = rw (lt-leb rounds 24 h)
+call-16 n rounds rate position k h = rw (lt-leb rounds 24 h) k
 
-pub call-5 : (rounds rate position : ℕ) → rounds ≤ 24 → valid rate position ≡ false → 5 ≡ callStatus rounds rate position
+pub call-5 : (n rounds rate position : ℕ) → n ≡ 5 → rounds ≤ 24 → valid rate position ≡ false → n ≡ callStatus rounds rate position
 unfolding callStatus
-call-5 rounds rate position h e = rw (le-leb rounds 24 h, e)
+call-5 n rounds rate position k h e = rw (le-leb rounds 24 h, e) k
 
-pub call-0 : (rounds rate position : ℕ) → rounds ≤ 24 → valid rate position ≡ true → 0 ≡ callStatus rounds rate position
+pub call-0 : (n rounds rate position : ℕ) → n ≡ 0 → rounds ≤ 24 → valid rate position ≡ true → n ≡ callStatus rounds rate position
 unfolding callStatus
-call-0 rounds rate position h e = rw (le-leb rounds 24 h, e)
+call-0 n rounds rate position k h e = rw (le-leb rounds 24 h, e) k
 
 -- ---- done
 
