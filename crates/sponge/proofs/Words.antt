@@ -3,13 +3,13 @@
 use mathlib.Core.Path.{_≡_, sym, ap, _∙_}
 use mathlib.Core.List.{List, [], _∷_, _++_}
 use Prim.Native.Nat.{ℕ, zero, suc, _+_, _-_, _*_, _/_, _%_, _^_, _<_, _≤_}
-use native.Mathlib.Nat.{lt-of-lt-of-le, zero-mul, add-zero, add-suc, suc-add, add-comm, mul-one, mul-suc, mul-comm, mul-assoc, add-mul}
+use native.Mathlib.Nat.{zero-mul, zero-add, add-zero, add-suc, suc-add, add-comm, mul-one, mul-suc, mul-comm, mul-assoc, add-mul}
 use native.Mathlib.Decide.{decLt}
 use native.Mathlib.Omega.{arith}
 use lib.ListN.{length, getD, take, drop, set, length-take, length-drop, drop-of-length-le, take-append-drop, List·getD-eq-default}
-use lib.Seq.{drop-cons, set-getD, set-set, set-out, getD-set-same, take-all, length-take-le, getD-take, getD-drop, drop-drop}
+use lib.Seq.{drop-cons, set-getD, set-set, set-out, getD-set-same, take-all, take-add, length-take-le, getD-take, getD-drop, drop-drop}
 use lib.Bits.{bitXor, xor-zero-r, xor-comm, xor-shifted}
-use lib.Pow.{shl-exact, shl-lt, pow-add, pow-mono}
+use lib.Pow.{shl-exact, shl-lt, pow-add}
 use Rattle.keccak.specs.State.{word}
 use Rattle.keccak.proofs.Bytes.{word-nil, word-cons}
 use Rattle.sponge.specs.Cut.{puts}
@@ -40,11 +40,15 @@ byte-lane l q j b h =
     let f : (8 * q + j) % 8 ≡ j = omega arith in
     rw (e, f)
 
+-- one byte more
+pow-byte : (j : ℕ) → 2 ^ (8 * suc j) ≡ 256 * 2 ^ (8 * j)
+pow-byte j = ap (λ (k : ℕ). 2 ^ k) (mul-suc 8 j) ∙ pow-add 2 (8 * j) 8 ∙ mul-comm (2 ^ (8 * j)) 256
+
+byte-up : (n j : ℕ) → n * 2 ^ (8 * suc j) ≡ 256 * n * 2 ^ (8 * j)
+byte-up n j = ap (λ (x : ℕ). n * x) (pow-byte j) ∙ sym (mul-assoc n 256 (2 ^ (8 * j))) ∙ ap (λ (x : ℕ). x * 2 ^ (8 * j)) (mul-comm n 256)
+
 shift : (b n j : ℕ) → b * 2 ^ (8 * j) + n * 2 ^ (8 * suc j) ≡ (b + 256 * n) * 2 ^ (8 * j)
-shift b n j =
-    let p : ℕ = 2 ^ (8 * j) in
-    let e : 2 ^ (8 * suc j) ≡ 256 * p = ap (λ (k : ℕ). 2 ^ k) (mul-suc 8 j) ∙ pow-add 2 (8 * j) 8 ∙ mul-comm p 256 in
-    ap (λ (x : ℕ). b * p + x) (ap (λ (x : ℕ). n * x) e ∙ sym (mul-assoc n 256 p) ∙ ap (λ (x : ℕ). x * p) (mul-comm n 256)) ∙ sym (add-mul b (256 * n) p)
+shift b n j = ap (λ (x : ℕ). b * 2 ^ (8 * j) + x) (byte-up n j) ∙ sym (add-mul b (256 * n) (2 ^ (8 * j)))
 
 -- bytes that stand in one lane
 lane-bytes : (bs : List ℕ) (l : List ℕ) (q j : ℕ) → ((k : ℕ) → getD bs k 0 < 256) → j + length bs ≤ 8
@@ -73,7 +77,7 @@ puts-parts l p s h e =
     ∙ ap (puts xorByte l p) (take-append-drop h s)
 
 -- n bytes of s from index i + k on, as a number
-digitsAt : ℕ → List ℕ → ℕ → ℕ → ℕ
+unfoldable pub digitsAt : ℕ → List ℕ → ℕ → ℕ → ℕ
 digitsAt zero s i k = 0
 digitsAt (suc n) s i k = getD s (i + k) 0 + 256 * digitsAt n s i (suc k)
 
@@ -84,17 +88,40 @@ word-digits (suc n) s i k h =
     ap (λ (t : List ℕ). word (take (suc n) t)) (drop-cons s (i + k) 0 (omega arith)) ∙ word-cons (getD s (i + k) 0) (take n (drop (suc (i + k)) s))
     ∙ ap (λ (x : ℕ). getD s (i + k) 0 + 256 * x) (ap (λ (m : ℕ). word (take n (drop m s))) (sym (add-suc i k)) ∙ word-digits n s i (suc k) (omega arith))
 
--- eight bytes are the sum that the code makes of them
-pub word-sum : (s : List ℕ) (i : ℕ) → i + 8 ≤ length s
-    → getD s i 0 + getD s (i + 1) 0 * 0x100 + getD s (i + 2) 0 * 0x10000 + getD s (i + 3) 0 * 0x1000000 + getD s (i + 4) 0 * 0x100000000
-    + getD s (i + 5) 0 * 0x10000000000 + getD s (i + 6) 0 * 0x1000000000000 + getD s (i + 7) 0 * 0x100000000000000 ≡ word (take 8 (drop i s))
-unfolding digitsAt
-word-sum s i h =
-    let first : getD s (i + 0) 0 ≡ getD s i 0 = rw add-zero in
-    let e : word (take 8 (drop (i + 0) s)) ≡ digitsAt 8 s i 0 = word-digits 8 s i 0 (omega arith) in
-    sym (ap (λ (m : ℕ). word (take 8 (drop m s))) (sym (add-zero i)) ∙ e ∙ omega (arith, first))
+-- ---- n bytes from index i on: the sum of digits that the code makes of them
 
--- ---- the loop that makes a number of up to eight bytes, the last one first
+pub word-sum : (n : ℕ) (s : List ℕ) (i : ℕ) → i + n ≤ length s → digitsAt n s i 0 ≡ word (take n (drop i s))
+word-sum n s i h = sym (ap (λ (m : ℕ). word (take n (drop m s))) (sym (add-zero i)) ∙ word-digits n s i 0 (omega arith))
+
+-- where they are the last ones
+pub rest-sum : (n : ℕ) (s : List ℕ) (i : ℕ) → i + n ≡ length s → digitsAt n s i 0 ≡ word (drop i s)
+rest-sum n s i h = word-sum n s i (omega arith) ∙ ap word (take-all n (drop i s) (omega (arith, length-drop i s)))
+
+-- the index of the first digit
+pub first-digit : (s : List ℕ) (i : ℕ) → getD s (i + 0) 0 ≡ getD s i 0
+first-digit s i = rw add-zero
+
+-- ---- a number of two parts
+
+word-append : (s t : List ℕ) → word (s ++ t) ≡ word s + word t * 2 ^ (8 * length s)
+word-append [] t = sym (rw (word-nil, zero-add, mul-one))
+word-append (b ∷ s) t =
+    word-cons b (s ++ t) ∙ ap (λ (x : ℕ). b + 256 * x) (word-append s t)
+    ∙ sym (rw (word-cons b s, byte-up (word t) (length s)) (omega arith))
+
+pub word-parts : (s : List ℕ) (h : ℕ) → h ≤ length s → word (take h s) + word (drop h s) * 2 ^ (8 * h) ≡ word s
+word-parts s h g =
+    ap (λ (n : ℕ). word (take h s) + word (drop h s) * 2 ^ (8 * n)) (sym (length-take-le h s g))
+    ∙ sym (word-append (take h s) (drop h s)) ∙ ap word (take-append-drop h s)
+
+-- n bytes from index i on, and the next m
+pub word-next : (s : List ℕ) (i n m : ℕ) → i + n ≤ length s
+    → word (take n (drop i s)) + word (take m (drop (i + n) s)) * 2 ^ (8 * n) ≡ word (take (n + m) (drop i s))
+word-next s i n m h =
+    ap (λ (k : ℕ). word (take n (drop i s)) + word (take m (drop (i + n) s)) * 2 ^ (8 * k)) (sym (length-take-le n (drop i s) (omega (arith, length-drop i s))))
+    ∙ sym (word-append (take n (drop i s)) (take m (drop (i + n) s)))
+    ∙ ap (λ (t : List ℕ). word (take n (drop i s) ++ take m t)) (sym (drop-drop n i s))
+    ∙ ap word (sym (take-add n m (drop i s)))
 
 -- a number is below the power of its bytes
 word-lt : (s : List ℕ) → ((k : ℕ) → getD s k 0 < 256) → word s < 2 ^ (8 * length s)
@@ -102,19 +129,7 @@ word-lt [] h = rw word-nil (omega arith)
 word-lt (b ∷ s) h =
     let t : word s < 2 ^ (8 * length s) = word-lt s (λ k. h (suc k)) in
     let hb : b < 256 = h 0 in
-    let e : 2 ^ (8 * suc (length s)) ≡ 256 * 2 ^ (8 * length s) = ap (λ (k : ℕ). 2 ^ k) (mul-suc 8 (length s)) ∙ pow-add 2 (8 * length s) 8 ∙ mul-comm (2 ^ (8 * length s)) 256 in
-    rw (word-cons b s, e) (omega arith)
-
-pub word-fits : (s : List ℕ) (i : ℕ) → ((k : ℕ) → getD s k 0 < 256) → length s ≤ 8 → 0 < i → word (drop i s) < 2 ^ 56
-word-fits s i h l g =
-    let n : length (drop i s) ≤ 7 = simp length-drop (omega arith) in
-    lt-of-lt-of-le (word-lt (drop i s) (λ k. rw (getD-drop i s k 0) (h (i + k)))) (pow-mono {i = 8 * length (drop i s)} {j = 56} (omega arith))
-
-pub word-more : (s : List ℕ) (i : ℕ) → i < length s → word (drop (suc i) s) * 256 + getD s i 0 ≡ word (drop i s)
-word-more s i h = sym (ap word (drop-cons s i 0 h) ∙ word-cons (getD s i 0) (drop (suc i) s) ∙ omega arith)
-
-pub word-done : (s : List ℕ) (i : ℕ) → length s ≤ i → 0 ≡ word (drop i s)
-word-done s i h = sym (ap word (drop-of-length-le s h) ∙ word-nil)
+    rw (word-cons b s, pow-byte (length s)) (omega arith)
 
 -- bytes within one lane, shifted to their position in it: the machine's shift loses nothing
 pub lane-shifted : (l : List ℕ) (p w : ℕ) (s : List ℕ) → ((k : ℕ) → getD s k 0 < 256) → p % 8 + length s ≤ 8 → w ≡ word s

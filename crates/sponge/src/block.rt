@@ -1,6 +1,6 @@
 // Bytes in and out of one block of the state: whole lanes at once, and what is ragged at both ends apart.
 ghost use mathlib.Core.Path.{_≡_};
-ghost use Prim.Native.Nat.{_+_, _*_, _%_, _<_, _≤_};
+ghost use Prim.Native.Nat.{_+_, _*_, _%_, _^_, _<_, _≤_};
 ghost use lib.ListN.{length, take, drop};
 ghost use Rattle.keccak.specs.State.{byteAt, word};
 ghost use Rattle.sponge.specs.Cut.{puts};
@@ -22,33 +22,52 @@ pub(crate) fn xor_byte(lanes: &mut [u64; 25], at: usize, b: u8)
     lanes[q] = lanes[q] ^ (wide(b) << s);
 }
 
+// Four bytes from index i on as a number, the least significant first.
+fn half_at(s: &[u8], i: usize) -> u64
+    requires { ⌜ i + 4 ≤ length (now s) ⌝ }
+    ensures { λ r. ⌜ (r ≡ word (take 4 (drop i (now (s .entry))))) × (r < 2 ^ 32) ⌝ }
+{
+    wide(s[i]) + wide(s[i + 1]) * 0x100 + wide(s[i + 2]) * 0x1_0000 + wide(s[i + 3]) * 0x100_0000
+}
+
+// The same of eight bytes.
+fn word_at(s: &[u8], i: usize) -> u64
+    requires { ⌜ i + 8 ≤ length (now s) ⌝ }
+    ensures { λ r. ⌜ r ≡ word (take 8 (drop i (now (s .entry)))) ⌝ }
+{
+    half_at(s, i) + half_at(s, i + 4) * 0x1_0000_0000
+}
+
+// The same of all bytes from index i on, fewer than four: a case for each count costs less than a loop.
+fn word_of_few(s: &[u8], i: usize) -> u64
+    requires { ⌜ (i ≤ length (now s)) × (length (now s) < i + 4) ⌝ }
+    ensures { λ r. ⌜ (r ≡ word (drop i (now (s .entry)))) × (r < 2 ^ 24) ⌝ }
+{
+    let n = s.len() - i;
+    if n == 0 {
+        return 0;
+    }
+    if n == 1 {
+        return wide(s[i]);
+    }
+    if n == 2 {
+        return wide(s[i]) + wide(s[i + 1]) * 0x100;
+    }
+    wide(s[i]) + wide(s[i + 1]) * 0x100 + wide(s[i + 2]) * 0x1_0000
+}
+
 // Up to eight bytes as a number, the least significant first.
 fn word_of(s: &[u8]) -> u64
     requires { ⌜ length (now s) ≤ 8 ⌝ }
     ensures { λ r. ⌜ r ≡ word (now (s .entry)) ⌝ }
 {
-    let mut i = s.len();
-    let mut w = 0;
-    while 0 < i {
-        i -= 1;
-        w = w * 256 + wide(s[i]);
+    if s.len() < 4 {
+        return word_of_few(s, 0);
     }
-    w
-}
-
-// Eight bytes from index i on as a number, the least significant first.
-fn word_at(s: &[u8], i: usize) -> u64
-    requires { ⌜ i + 8 ≤ length (now s) ⌝ }
-    ensures { λ r. ⌜ r ≡ word (take 8 (drop i (now (s .entry)))) ⌝ }
-{
-    wide(s[i])
-        + wide(s[i + 1]) * 0x100
-        + wide(s[i + 2]) * 0x1_0000
-        + wide(s[i + 3]) * 0x100_0000
-        + wide(s[i + 4]) * 0x1_0000_0000
-        + wide(s[i + 5]) * 0x100_0000_0000
-        + wide(s[i + 6]) * 0x1_0000_0000_0000
-        + wide(s[i + 7]) * 0x100_0000_0000_0000
+    if s.len() < 8 {
+        return half_at(s, 0) + word_of_few(s, 4) * 0x1_0000_0000;
+    }
+    word_at(s, 0)
 }
 
 // Bytes XORed into the state from byte `at` on, within one lane.
