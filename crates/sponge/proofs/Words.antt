@@ -9,7 +9,7 @@ use native.Mathlib.Omega.{arith}
 use lib.ListN.{length, getD, take, drop, set, length-take, length-drop, drop-of-length-le, take-append-drop, List·getD-eq-default}
 use lib.Seq.{drop-cons, set-getD, set-set, set-out, getD-set-same, take-all, take-add, length-take-le, getD-take, getD-drop, drop-drop}
 use lib.Bits.{bitXor, xor-zero-r, xor-comm, xor-shifted}
-use lib.Pow.{shl-exact, shl-lt, pow-add}
+use lib.Pow.{shl-exact, shl-lt, pow-add, high, low}
 use Rattle.keccak.specs.State.{word}
 use Rattle.keccak.proofs.Bytes.{word-nil, word-cons}
 use Rattle.sponge.specs.Cut.{puts}
@@ -131,14 +131,12 @@ word-lt (b ∷ s) h =
     let hb : b < 256 = h 0 in
     rw (word-cons b s, pow-byte (length s)) (omega arith)
 
--- bytes within one lane, shifted to their position in it: the machine's shift loses nothing
-pub lane-shifted : (l : List ℕ) (p w : ℕ) (s : List ℕ) → ((k : ℕ) → getD s k 0 < 256) → p % 8 + length s ≤ 8 → w ≡ word s
-    → set l (p / 8) (bitXor (getD l (p / 8) 0) (w * 2 ^ (8 * (p % 8)) % 2 ^ 64)) ≡ puts xorByte l p s
-lane-shifted l p w s h g e =
-    let at : 8 * (p / 8) + p % 8 ≡ p = omega arith in
-    let small : w < 2 ^ (8 * length s) = rw e (word-lt s h) in
-    ap (xorLane l (p / 8)) (shl-exact (8 * length s) (8 * (p % 8)) 64 small (omega arith) ∙ ap (λ (n : ℕ). n * 2 ^ (8 * (p % 8))) e)
-    ∙ sym (lane-bytes s l (p / 8) (p % 8) h g) ∙ ap (λ (n : ℕ). puts xorByte l n s) at
+-- shifted left by j in a word of n bits, x * 2 ^ k + lo loses x, where k + j is n
+shl-low : (w k j n x : ℕ) {lo : ℕ} → lo < 2 ^ k → w ≡ x * 2 ^ k + lo → k + j ≡ n → w * 2 ^ j % 2 ^ n ≡ lo * 2 ^ j
+shl-low w k j n x {lo} h e g =
+    let small : lo * 2 ^ j < 2 ^ n = rw g at (shl-lt k j h) in
+    let up : x * 2 ^ k * 2 ^ j ≡ x * 2 ^ n = mul-assoc x (2 ^ k) (2 ^ j) ∙ ap (λ (i : ℕ). x * i) (sym (pow-add 2 k j) ∙ ap (λ (i : ℕ). 2 ^ i) g) in
+    ap (λ (i : ℕ). i % 2 ^ n) (ap (λ (i : ℕ). i * 2 ^ j) e ∙ add-mul (x * 2 ^ k) lo (2 ^ j) ∙ ap (λ (i : ℕ). i + lo * 2 ^ j) up) ∙ low x n small
 
 -- a part of bytes has bytes
 part-bytes : (s : List ℕ) (i n : ℕ) → ((j : ℕ) → getD s j 0 < 256) → (k : ℕ) → getD (take n (drop i s)) k 0 < 256
@@ -149,6 +147,40 @@ part-bytes s i n h k = by (decLt k n)
     by (no g) =
         let o : length (take n (drop i s)) ≤ k = rw length-take (omega arith) in
         rw (List·getD-eq-default (take n (drop i s)) 0 {n = k} o) (omega arith)
+
+-- bytes within one lane, shifted to their position in it: the machine's shift loses nothing
+pub lane-shifted : (l : List ℕ) (p w : ℕ) (s : List ℕ) → ((k : ℕ) → getD s k 0 < 256) → p % 8 + length s ≤ 8 → w ≡ word s
+    → set l (p / 8) (bitXor (getD l (p / 8) 0) (w * 2 ^ (8 * (p % 8)) % 2 ^ 64)) ≡ puts xorByte l p s
+lane-shifted l p w s h g e =
+    let at : 8 * (p / 8) + p % 8 ≡ p = omega arith in
+    let small : w < 2 ^ (8 * length s) = rw e (word-lt s h) in
+    ap (xorLane l (p / 8)) (shl-exact (8 * length s) (8 * (p % 8)) 64 small (omega arith) ∙ ap (λ (n : ℕ). n * 2 ^ (8 * (p % 8))) e)
+    ∙ sym (lane-bytes s l (p / 8) (p % 8) h g) ∙ ap (λ (n : ℕ). puts xorByte l n s) at
+
+-- bytes across two lanes: h of them stand in the first, the others from the start of the next on
+two-lanes : (l : List ℕ) (q j h w : ℕ) (s : List ℕ) → ((k : ℕ) → getD s k 0 < 256) → h + j ≡ 8 → h ≤ length s → length s ≤ 8 → w ≡ word s
+    → xorLane (xorLane l q (w * 2 ^ (8 * j) % 2 ^ 64)) (q + 1) (w / 2 ^ (8 * h)) ≡ puts xorByte l (8 * q + j) s
+two-lanes l q j h w s hb a g m e =
+    let n : length (take h s) ≡ h = length-take-le h s g in
+    let small : word (take h s) < 2 ^ (8 * h) = rw n at (word-lt (take h s) (part-bytes s 0 h hb)) in
+    let sum : w ≡ word (drop h s) * 2 ^ (8 * h) + word (take h s) = omega (arith, word-parts s h g) in
+    let next : 8 * (q + 1) + 0 ≡ 8 * q + j + h = omega arith in
+    ap (λ (x : ℕ). xorLane (xorLane l q x) (q + 1) (w / 2 ^ (8 * h))) (shl-low w (8 * h) (8 * j) 64 (word (drop h s)) small sum (omega arith))
+    ∙ ap (λ (m : List ℕ). xorLane m (q + 1) (w / 2 ^ (8 * h))) (sym (lane-bytes (take h s) l q j (part-bytes s 0 h hb) (omega arith)))
+    ∙ ap (xorLane (puts xorByte l (8 * q + j) (take h s)) (q + 1)) (ap (λ (x : ℕ). x / 2 ^ (8 * h)) sum ∙ high (word (drop h s)) (8 * h) small ∙ sym (mul-one (word (drop h s))))
+    ∙ sym (lane-bytes (drop h s) (puts xorByte l (8 * q + j) (take h s)) (q + 1) 0 (λ k. rw (getD-drop h s k 0) (hb (h + k))) (omega (arith, length-drop h s)))
+    ∙ ap (λ (p : ℕ). puts xorByte (puts xorByte l (8 * q + j) (take h s)) p (drop h s)) next
+    ∙ puts-parts l (8 * q + j) s h g
+
+-- the same at byte p, where n is how far the machine shifts back
+pub lanes-shifted : (l : List ℕ) (p n w : ℕ) (s : List ℕ) → ((k : ℕ) → getD s k 0 < 256) → 8 ≤ p % 8 + length s → length s ≤ 8 → n + 8 * (p % 8) ≡ 64 → w ≡ word s
+    → xorLane (xorLane l (p / 8) (w * 2 ^ (8 * (p % 8)) % 2 ^ 64)) (p / 8 + 1) (w / 2 ^ n) ≡ puts xorByte l p s
+lanes-shifted l p n w s hb g m f e =
+    let at : 8 * (p / 8) + p % 8 ≡ p = omega arith in
+    let k : n ≡ 8 * (8 - p % 8) = omega arith in
+    ap (λ (i : ℕ). xorLane (xorLane l (p / 8) (w * 2 ^ (8 * (p % 8)) % 2 ^ 64)) (p / 8 + 1) (w / 2 ^ i)) k
+    ∙ two-lanes l (p / 8) (p % 8) (8 - p % 8) w s hb (omega arith) (omega arith) m e
+    ∙ ap (λ (i : ℕ). puts xorByte l i s) at
 
 -- the step of the loop over words
 pub word-step : (l s : List ℕ) (q i : ℕ) → i + 8 ≤ length s → ((j : ℕ) → getD s j 0 < 256)

@@ -1,6 +1,6 @@
 // Bytes in and out of one block of the state: whole lanes at once, and what is ragged at both ends apart.
 ghost use mathlib.Core.Path.{_≡_};
-ghost use Prim.Native.Nat.{_+_, _*_, _%_, _^_, _<_, _≤_};
+ghost use Prim.Native.Nat.{_+_, _*_, _^_, _<_, _≤_};
 ghost use lib.ListN.{length, take, drop};
 ghost use Rattle.keccak.specs.State.{byteAt, word};
 ghost use Rattle.sponge.specs.Cut.{puts};
@@ -70,14 +70,18 @@ fn word_of(s: &[u8]) -> u64
     word_at(s, 0)
 }
 
-// Bytes XORed into the state from byte `at` on, within one lane.
-fn xor_lane(lanes: &mut [u64; 25], at: usize, s: &[u8])
-    requires { ⌜ (at < 200) × (at % 8 + length (now s) ≤ 8) ⌝ }
+// Up to eight bytes XORed into the state from byte `at` on, into one lane or two.
+pub(crate) fn xor_bytes(lanes: &mut [u64; 25], at: usize, s: &[u8])
+    requires { ⌜ (at < 200) × (at + length (now s) ≤ 200) × (length (now s) ≤ 8) ⌝ }
     ensures { λ _. ⌜ now (lanes .exit) ≡ puts xorByte (now (lanes .entry)) at (now (s .entry)) ⌝ }
 {
     let q = at / 8;
     let shift = 8 * (at % 8);
-    lanes[q] = lanes[q] ^ (word_of(s) << shift);
+    let w = word_of(s);
+    lanes[q] = lanes[q] ^ (w << shift);
+    if 8 < at % 8 + s.len() {
+        lanes[q + 1] = lanes[q + 1] ^ (w >> (64 - shift));
+    }
 }
 
 // The same from the start of lane `first` on: whole lanes, and what is left of the bytes.
@@ -93,7 +97,7 @@ fn xor_words(lanes: &mut [u64; 25], first: usize, s: &[u8])
         i += 8;
     }
     if i < s.len() {
-        xor_lane(lanes, 8 * q, &s[i..]);
+        xor_bytes(lanes, 8 * q, &s[i..]);
     }
 }
 
@@ -102,11 +106,11 @@ pub(crate) fn xor_part(lanes: &mut [u64; 25], at: usize, s: &[u8])
     requires { ⌜ (at < 200) × (at + length (now s) ≤ 200) ⌝ }
     ensures { λ _. ⌜ now (lanes .exit) ≡ puts xorByte (now (lanes .entry)) at (now (s .entry)) ⌝ }
 {
-    let h = (8 - at % 8) % 8;
-    if s.len() <= h {
-        xor_lane(lanes, at, s);
+    if s.len() <= 8 {
+        xor_bytes(lanes, at, s);
     } else {
-        xor_lane(lanes, at, &s[..h]);
+        let h = (8 - at % 8) % 8;
+        xor_bytes(lanes, at, &s[..h]);
         xor_words(lanes, (at + h) / 8, &s[h..]);
     }
 }

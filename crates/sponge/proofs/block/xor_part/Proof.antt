@@ -11,17 +11,17 @@ use Rattle.sponge.proofs.Words.{rest-part, puts-parts}
 use Rattle.sponge.proofs.block.xor_part.Statement.{statement}
 use Rattle.sponge.proofs.block.xor_part.Tie as tie
 
+xor-bytes-requires : tie.Need-xor-bytes-requires
+xor-bytes-requires c κs = search needs
+
 sub-h : tie.Need-sub-h
 sub-h c = search needs
 
-xor-lane-requires : tie.Need-xor-lane-requires
-xor-lane-requires c κs = search needs
+slice-aggregate-xor-bytes : tie.Need-slice-aggregate-xor-bytes
+slice-aggregate-xor-bytes c = let a = c .before .before .before .before .args in sym (length-take-le ((8 - a .at % 8) % 8) (a .s .now) (omega arith))
 
-slice-aggregate-xor-lane : tie.Need-slice-aggregate-xor-lane
-slice-aggregate-xor-lane c = let a = c .before .before .before .before .args in sym (length-take-le ((8 - a .at % 8) % 8) (a .s .now) (omega arith))
-
-xor-lane-requires-2 : tie.Need-xor-lane-requires-2
-xor-lane-requires-2 c κs = let a = c .before .before .before .before .args in omega (arith, length-take-le ((8 - a .at % 8) % 8) (a .s .now) (omega arith))
+xor-bytes-requires-2 : tie.Need-xor-bytes-requires-2
+xor-bytes-requires-2 c κs = let a = c .before .before .before .before .args in omega (arith, length-take-le ((8 - a .at % 8) % 8) (a .s .now) (omega arith))
 
 add-xor-words : tie.Need-add-xor-words
 add-xor-words c = search needs
@@ -48,19 +48,19 @@ returns-2 c =
     let e : 8 * ((a .at + h) / 8) ≡ a .at + h = omega arith in
     let f : h ≤ length (a .s .now) = omega arith in
     c .xor-words .ensures
-    ∙ ap (λ (t : List ℕ). puts xorByte (c .before .before .before .xor-lane2 .last .0) (8 * ((a .at + h) / 8)) t) (rest-part (a .s .now) h)
-    ∙ ap (λ (n : ℕ). puts xorByte (c .before .before .before .xor-lane2 .last .0) n (drop h (a .s .now))) e
-    ∙ ap (λ (m : List ℕ). puts xorByte m (a .at + h) (drop h (a .s .now))) (c .before .before .before .xor-lane2 .ensures)
+    ∙ ap (λ (t : List ℕ). puts xorByte (c .before .before .before .xor-bytes2 .last .0) (8 * ((a .at + h) / 8)) t) (rest-part (a .s .now) h)
+    ∙ ap (λ (n : ℕ). puts xorByte (c .before .before .before .xor-bytes2 .last .0) n (drop h (a .s .now))) e
+    ∙ ap (λ (m : List ℕ). puts xorByte m (a .at + h) (drop h (a .s .now))) (c .before .before .before .xor-bytes2 .ensures)
     ∙ puts-parts (a .lanes .now) (a .at) (a .s .now) h f
 
 pub xor-part-spec : {M : Type 1} → statement M
 xor-part-spec =
     tie.close
     (tie.spec
+    xor-bytes-requires
     sub-h
-    xor-lane-requires
-    slice-aggregate-xor-lane
-    xor-lane-requires-2
+    slice-aggregate-xor-bytes
+    xor-bytes-requires-2
     add-xor-words
     sub-xor-words
     part-xor-words-start

@@ -57,26 +57,26 @@ loop-again c =
           ∙ l .loop .inv .2,
     )
 
-mul-xor-lane : tie.Need-mul-xor-lane Inv-loop μ-loop
-mul-xor-lane c = search needs
+mul-xor-bytes : tie.Need-mul-xor-bytes Inv-loop μ-loop
+mul-xor-bytes c = search needs
 
-sub-xor-lane : tie.Need-sub-xor-lane Inv-loop μ-loop
-sub-xor-lane c = search needs
+sub-xor-bytes : tie.Need-sub-xor-bytes Inv-loop μ-loop
+sub-xor-bytes c = search needs
 
-part-xor-lane-start : tie.Need-part-xor-lane-start Inv-loop μ-loop
-part-xor-lane-start c = search needs
+part-xor-bytes-start : tie.Need-part-xor-bytes-start Inv-loop μ-loop
+part-xor-bytes-start c = search needs
 
-part-xor-lane-end : tie.Need-part-xor-lane-end Inv-loop μ-loop
-part-xor-lane-end c = search needs
+part-xor-bytes-end : tie.Need-part-xor-bytes-end Inv-loop μ-loop
+part-xor-bytes-end c = search needs
 
-xor-lane-requires : tie.Need-xor-lane-requires Inv-loop μ-loop
-xor-lane-requires c κs = search needs
+xor-bytes-requires : tie.Need-xor-bytes-requires Inv-loop μ-loop
+xor-bytes-requires c κs = search needs
 
 returns : tie.Need-returns Inv-loop μ-loop
 returns c =
     let l = c .before .before .before .before .before in
     let a = l .before .before .args in
-    c .xor-lane .ensures ∙ ap (puts xorByte (l .loop .lanes) (8 * l .loop .q)) (rest-part (a .s .now) (l .loop .i)) ∙ l .loop .inv .2
+    c .xor-bytes .ensures ∙ ap (puts xorByte (l .loop .lanes) (8 * l .loop .q)) (rest-part (a .s .now) (l .loop .i)) ∙ l .loop .inv .2
 
 returns-2 : tie.Need-returns-2 Inv-loop μ-loop
 returns-2 c =
@@ -100,10 +100,10 @@ xor-words-spec =
     add-i
     loop-less
     loop-again
-    mul-xor-lane
-    sub-xor-lane
-    part-xor-lane-start
-    part-xor-lane-end
-    xor-lane-requires
+    mul-xor-bytes
+    sub-xor-bytes
+    part-xor-bytes-start
+    part-xor-bytes-end
+    xor-bytes-requires
     returns
     returns-2)
