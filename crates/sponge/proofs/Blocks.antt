@@ -10,7 +10,7 @@ use Rattle.sponge.specs.Cut.{puts}
 use Rattle.sponge.specs.Published.{xorByte, bytesFrom}
 use Rattle.sponge.specs.Waiting.{ready}
 use Rattle.sponge.specs.Model.{Sponge, absorbBytes, pad, squeezeBytes, afterBytes}
-use Rattle.sponge.proofs.Waiting.{steps-part, steps-done}
+use Rattle.sponge.proofs.Waiting.{steps-in, steps-part, steps-done}
 use Rattle.sponge.proofs.Published.{squeeze-in, after-in}
 
 module _ (P : List ℕ → List ℕ) (rate : ℕ) where
@@ -49,6 +49,11 @@ module _ (P : List ℕ → List ℕ) (rate : ℕ) where
     pub pad-part : (d : ℕ) → record { value = P (xorByte (xorByte v at d) (rate - 1) 0x80); position = 0 } ≡ pad P rate s d
     unfolding pad
     pad-part d = rw (← e)
+
+  -- bytes that the block in hand has room for: m and n are the lanes and the position after them
+  pub absorb-in : (v m : List ℕ) (p n : ℕ) (piece : List ℕ) → m ≡ puts xorByte v p piece → n ≡ p + length piece → p + length piece ≤ rate
+      → record { value = m; position = n } ≡ absorbBytes P rate (record { value = v; position = p }) piece
+  absorb-in v m p n piece e f h = rw (e, f, steps-in P xorByte rate v p piece h)
 
   -- no bytes are left
   pub absorb-done : (s : Sponge) (piece : List ℕ) (i : ℕ) → length piece ≤ i → absorbBytes P rate s (drop i piece) ≡ s

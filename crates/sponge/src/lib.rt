@@ -146,6 +146,17 @@ pub fn absorb(
     if refusal != status::DONE {
         return refused(refusal, position);
     }
+    // A short piece that leaves room in the block in hand touches one lane or two, and no block is permuted.
+    if piece.len() < rate - position {
+        if piece.len() <= 8 {
+            let next = position + piece.len();
+            block::xor_bytes(lanes, position, piece);
+            return Answer {
+                status: status::DONE,
+                position: next,
+            };
+        }
+    }
     let after = absorb_blocks(lanes, position, rate, rounds, piece);
     Answer {
         status: status::DONE,
