@@ -15,6 +15,7 @@ use Rattle.sponge.specs.Runs as runs
 use Rattle.sponge.specs.Runs.{Machine, freshRun, perform}
 use Rattle.hasher.specs.Function.{messageLimit, Function, permutation, rules}
 use Rattle.hasher.specs.declared.Run.{Run}
+use Rattle.hasher.specs.declared.Progress.{Progress}
 use Rattle.hasher.specs.declared.Moved.{Moved}
 use Rattle.hasher.specs.declared.Answer.{Answer}
 
@@ -108,12 +109,16 @@ module _ {A : Type 0} (F : Function A) where
   unfoldable pub replyOf : Run → Call A → Reply Run
   replyOf r c = record { status = answer r c .status; bytes = perform (rules F) (machine F) (seen r) c .bytes; left = answer r c .run }
 
--- a run and an answer from their parts
-abbrev pub runWith : List ℕ → ℕ → ℕ → ℕ → ℕ → Run
-runWith lanes position phase absorbed squeezed = record { lanes = lanes; position = position; phase = phase; absorbed = absorbed; squeezed = squeezed }
+-- ---- a run as lanes that are lent, and what it holds beside them
+
+abbrev pub progressOf : Run → Progress
+progressOf r = record { position = r .position; phase = r .phase; absorbed = r .absorbed; squeezed = r .squeezed }
+
+abbrev pub runWith : List ℕ → Progress → Run
+runWith lanes at = record { lanes = lanes; position = at .position; phase = at .phase; absorbed = at .absorbed; squeezed = at .squeezed }
 
 abbrev pub answered : Moved → List ℕ → Answer
-answered m lanes = record { run = runWith lanes (m .position) (m .phase) (m .absorbed) (m .squeezed); status = m .status }
+answered m lanes = record { run = runWith lanes (m .at); status = m .status }
 
 -- ---- in one go
 

@@ -8,7 +8,7 @@ ghost use Rattle.keccak.specs.Permutation.{roundsStatus};
 ghost use Rattle.hasher.specs.Model.{reachable, numbers, runWith, answered, performOf, writtenOf, hashStatus, hashOutput};
 use crate::MESSAGE_LIMIT;
 use crate::Moved;
-use crate::Run;
+use crate::Progress;
 use sponge::status;
 
 const ABSORBING: u8 = 0;
@@ -27,44 +27,31 @@ fn position_after(rate: usize, n: u64) -> usize
 }
 
 // Whether a run reached from a fresh one has this phase, these totals and this position.
-fn is_reachable(
-    rate: usize,
-    limit: u64,
-    position: usize,
-    phase: u8,
-    absorbed: u64,
-    squeezed: u64,
-) -> bool
+fn is_reachable(rate: usize, limit: u64, at: Progress) -> bool
     requires { ⌜ (0 < rate) × (rate ≤ 200) ⌝ }
-    ensures { λ r. ⌜ r ≡ reachable rate limit position phase absorbed squeezed ⌝ }
+    ensures { λ r. ⌜ r ≡ reachable rate limit (at .position) (at .phase) (at .absorbed) (at .squeezed) ⌝ }
 {
-    if MESSAGE_LIMIT < absorbed {
+    if MESSAGE_LIMIT < at.absorbed {
         return false;
     }
-    if phase == ABSORBING {
-        if squeezed == 0 {
-            return position == position_after(rate, absorbed);
+    if at.phase == ABSORBING {
+        if at.squeezed == 0 {
+            return at.position == position_after(rate, at.absorbed);
         }
         return false;
     }
-    if phase == SQUEEZING {
-        if squeezed <= limit {
-            return position == position_after(rate, squeezed);
+    if at.phase == SQUEEZING {
+        if at.squeezed <= limit {
+            return at.position == position_after(rate, at.squeezed);
         }
     }
     false
 }
 
-fn refused(number: u8, position: usize, phase: u8, absorbed: u64, squeezed: u64) -> Moved
-    ensures { λ r. ⌜ r ≡ record { status = number; position = position; phase = phase; absorbed = absorbed; squeezed = squeezed } ⌝ }
+pub(crate) fn refused(number: u8, at: Progress) -> Moved
+    ensures { λ r. ⌜ r ≡ record { at = at; status = number } ⌝ }
 {
-    Moved {
-        status: number,
-        position,
-        phase,
-        absorbed,
-        squeezed,
-    }
+    Moved { at, status: number }
 }
 
 pub(crate) fn absorb(
@@ -72,32 +59,29 @@ pub(crate) fn absorb(
     rounds: usize,
     limit: u64,
     lanes: &mut [u64; 25],
-    position: usize,
-    phase: u8,
-    absorbed: u64,
-    squeezed: u64,
+    at: Progress,
     piece: &[u8],
 ) -> Moved
     requires { ⌜ (0 < rate) × (rate ≤ 200) × (roundsStatus rounds ≡ 0) ⌝ }
-    ensures { λ r. ⌜ answered r (now (lanes .exit)) ≡ performOf (numbers rate rounds limit) (runWith (now (lanes .entry)) position phase absorbed squeezed) (Call.absorb (now (piece .entry))) ⌝ }
+    ensures { λ r. ⌜ answered r (now (lanes .exit)) ≡ performOf (numbers rate rounds limit) (runWith (now (lanes .entry)) at) (Call.absorb (now (piece .entry))) ⌝ }
 {
-    if !is_reachable(rate, limit, position, phase, absorbed, squeezed) {
-        return refused(status::UNREACHABLE, position, phase, absorbed, squeezed);
+    if !is_reachable(rate, limit, at) {
+        return refused(status::UNREACHABLE, at);
     }
-    if phase != ABSORBING {
-        return refused(status::WRONG_PHASE, position, phase, absorbed, squeezed);
+    if at.phase != ABSORBING {
+        return refused(status::WRONG_PHASE, at);
     }
-    let total = absorbed + piece.len() as u64;
+    let total = at.absorbed + piece.len() as u64;
     if MESSAGE_LIMIT < total {
-        return refused(status::INPUT_TOO_LONG, position, phase, absorbed, squeezed);
+        return refused(status::INPUT_TOO_LONG, at);
     }
-    let taken = sponge::absorb(lanes, position, rate, rounds, piece);
+    let taken = sponge::absorb(lanes, at.position, rate, rounds, piece);
+    let mut next = at;
+    next.position = taken.position;
+    next.absorbed = total;
     Moved {
+        at: next,
         status: taken.status,
-        position: taken.position,
-        phase,
-        absorbed: total,
-        squeezed,
     }
 }
 
@@ -106,32 +90,29 @@ pub(crate) fn finalize(
     rounds: usize,
     limit: u64,
     lanes: &mut [u64; 25],
-    position: usize,
-    phase: u8,
-    absorbed: u64,
-    squeezed: u64,
+    at: Progress,
     refusal: u8,
     last: u8,
 ) -> Moved
     requires { ⌜ (0 < rate) × (rate ≤ 200) × (roundsStatus rounds ≡ 0) ⌝ }
-    ensures { λ r. ⌜ answered r (now (lanes .exit)) ≡ performOf (numbers rate rounds limit) (runWith (now (lanes .entry)) position phase absorbed squeezed) (Call.finalize (record { byte = last; status = refusal })) ⌝ }
+    ensures { λ r. ⌜ answered r (now (lanes .exit)) ≡ performOf (numbers rate rounds limit) (runWith (now (lanes .entry)) at) (Call.finalize (record { byte = last; status = refusal })) ⌝ }
 {
-    if !is_reachable(rate, limit, position, phase, absorbed, squeezed) {
-        return refused(status::UNREACHABLE, position, phase, absorbed, squeezed);
+    if !is_reachable(rate, limit, at) {
+        return refused(status::UNREACHABLE, at);
     }
-    if phase != ABSORBING {
-        return refused(status::WRONG_PHASE, position, phase, absorbed, squeezed);
+    if at.phase != ABSORBING {
+        return refused(status::WRONG_PHASE, at);
     }
     if refusal != status::DONE {
-        return refused(refusal, position, phase, absorbed, squeezed);
+        return refused(refusal, at);
     }
-    let padded = sponge::pad(lanes, position, rate, rounds, last);
+    let padded = sponge::pad(lanes, at.position, rate, rounds, last);
+    let mut next = at;
+    next.position = padded.position;
+    next.phase = SQUEEZING;
     Moved {
+        at: next,
         status: padded.status,
-        position: padded.position,
-        phase: SQUEEZING,
-        absorbed,
-        squeezed,
     }
 }
 
@@ -140,34 +121,31 @@ pub(crate) fn squeeze(
     rounds: usize,
     limit: u64,
     lanes: &mut [u64; 25],
-    position: usize,
-    phase: u8,
-    absorbed: u64,
-    squeezed: u64,
+    at: Progress,
     out: &mut [u8],
 ) -> Moved
     requires { ⌜ (0 < rate) × (rate ≤ 200) × (roundsStatus rounds ≡ 0) ⌝ }
-    ensures { λ r. ⌜ answered r (now (lanes .exit)) ≡ performOf (numbers rate rounds limit) (runWith (now (lanes .entry)) position phase absorbed squeezed) (Call.squeeze (length (now (out .entry)))) ⌝ }
-    ensures { λ r. ⌜ now (out .exit) ≡ writtenOf (numbers rate rounds limit) (runWith (now (lanes .entry)) position phase absorbed squeezed) (now (out .entry)) ⌝ }
+    ensures { λ r. ⌜ answered r (now (lanes .exit)) ≡ performOf (numbers rate rounds limit) (runWith (now (lanes .entry)) at) (Call.squeeze (length (now (out .entry)))) ⌝ }
+    ensures { λ r. ⌜ now (out .exit) ≡ writtenOf (numbers rate rounds limit) (runWith (now (lanes .entry)) at) (now (out .entry)) ⌝ }
 {
-    if !is_reachable(rate, limit, position, phase, absorbed, squeezed) {
-        return refused(status::UNREACHABLE, position, phase, absorbed, squeezed);
+    if !is_reachable(rate, limit, at) {
+        return refused(status::UNREACHABLE, at);
     }
-    if phase != SQUEEZING {
-        return refused(status::WRONG_PHASE, position, phase, absorbed, squeezed);
+    if at.phase != SQUEEZING {
+        return refused(status::WRONG_PHASE, at);
     }
     let asked = out.len() as u64;
-    if limit - squeezed < asked {
-        return refused(status::OUTPUT_TOO_LONG, position, phase, absorbed, squeezed);
+    if limit - at.squeezed < asked {
+        return refused(status::OUTPUT_TOO_LONG, at);
     }
-    let total = squeezed + asked;
-    let given = sponge::squeeze(lanes, position, rate, rounds, out);
+    let total = at.squeezed + asked;
+    let given = sponge::squeeze(lanes, at.position, rate, rounds, out);
+    let mut next = at;
+    next.position = given.position;
+    next.squeezed = total;
     Moved {
+        at: next,
         status: given.status,
-        position: given.position,
-        phase,
-        absorbed,
-        squeezed: total,
     }
 }
 

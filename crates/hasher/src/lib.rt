@@ -1,11 +1,12 @@
 // A hasher: the sponge as a run that is absorbed into, finalized and squeezed, and in one go. What the functions above differ in, the rate, the
 // rounds, the last byte and the most bytes of output, each call is given.
 mod calls;
+pub mod in_place;
 
 ghost use mathlib.Core.Path.{_≡_};
 ghost use lib.ListN.{length};
 ghost use Rattle.sponge.specs.Transcript.{Call};
-ghost use Rattle.hasher.specs.Model.{freshOf, numbers, answerOf, outputOf, hashAtStatus, hashAtOutput};
+ghost use Rattle.hasher.specs.Model.{freshOf, numbers, progressOf, runWith, answered, answerOf, outputOf, hashAtStatus, hashAtOutput};
 use sponge::status;
 
 // The most bytes of a message.
@@ -23,13 +24,18 @@ pub struct Run {
     pub squeezed: u64,
 }
 
-// What a call leaves of a run beside its lanes, and its status.
-struct Moved {
-    status: u8,
-    position: usize,
-    phase: u8,
-    absorbed: u64,
-    squeezed: u64,
+// What a run holds beside its lanes.
+pub struct Progress {
+    pub position: usize,
+    pub phase: u8,
+    pub absorbed: u64,
+    pub squeezed: u64,
+}
+
+// What a call on lent lanes answers: the status, and what the run then holds beside them, which is what was given where the status is not 0.
+pub struct Moved {
+    pub at: Progress,
+    pub status: u8,
 }
 
 // What a call answers: the status, and the run, which is the one given where the status is not 0.
@@ -52,71 +58,65 @@ pub fn fresh() -> Run
     }
 }
 
+// What the run holds beside its lanes.
+pub fn progress_of(run: Run) -> Progress
+    ensures { λ r. ⌜ r ≡ progressOf run ⌝ }
+{
+    Progress {
+        position: run.position,
+        phase: run.phase,
+        absorbed: run.absorbed,
+        squeezed: run.squeezed,
+    }
+}
+
+// The run of these lanes.
+pub fn run_with(lanes: [u64; 25], at: Progress) -> Run
+    ensures { λ r. ⌜ r ≡ runWith lanes at ⌝ }
+{
+    Run {
+        lanes,
+        position: at.position,
+        phase: at.phase,
+        absorbed: at.absorbed,
+        squeezed: at.squeezed,
+    }
+}
+
+fn answer_with(lanes: [u64; 25], moved: Moved) -> Answer
+    ensures { λ r. ⌜ r ≡ answered moved lanes ⌝ }
+{
+    let run = run_with(lanes, moved.at);
+    Answer {
+        run,
+        status: moved.status,
+    }
+}
+
 // Absorbs a piece of the message.
 pub fn absorb(rate: usize, rounds: usize, limit: u64, run: Run, piece: &[u8]) -> Answer
     ensures { λ r. ⌜ r ≡ answerOf (numbers rate rounds limit) run (Call.absorb (now (piece .entry))) ⌝ }
 {
-    let refusal = sponge::call_status(rounds, rate, 0);
-    if refusal != status::DONE {
-        return Answer {
-            run,
-            status: refusal,
-        };
-    }
-    let mut next = run;
-    let moved = calls::absorb(
-        rate,
-        rounds,
-        limit,
-        &mut next.lanes,
-        run.position,
-        run.phase,
-        run.absorbed,
-        run.squeezed,
-        piece,
-    );
-    next.position = moved.position;
-    next.phase = moved.phase;
-    next.absorbed = moved.absorbed;
-    next.squeezed = moved.squeezed;
-    Answer {
-        run: next,
-        status: moved.status,
-    }
+    let mut lanes = run.lanes;
+    let moved = in_place::absorb(rate, rounds, limit, &mut lanes, progress_of(run), piece);
+    answer_with(lanes, moved)
 }
 
 // Ends the message with the byte `last`, whose own status is `refusal`.
 pub fn finalize(rate: usize, rounds: usize, limit: u64, run: Run, refusal: u8, last: u8) -> Answer
     ensures { λ r. ⌜ r ≡ answerOf (numbers rate rounds limit) run (Call.finalize (record { byte = last; status = refusal })) ⌝ }
 {
-    let number = sponge::call_status(rounds, rate, 0);
-    if number != status::DONE {
-        return Answer {
-            run,
-            status: number,
-        };
-    }
-    let mut next = run;
-    let moved = calls::finalize(
+    let mut lanes = run.lanes;
+    let moved = in_place::finalize(
         rate,
         rounds,
         limit,
-        &mut next.lanes,
-        run.position,
-        run.phase,
-        run.absorbed,
-        run.squeezed,
+        &mut lanes,
+        progress_of(run),
         refusal,
         last,
     );
-    next.position = moved.position;
-    next.phase = moved.phase;
-    next.absorbed = moved.absorbed;
-    next.squeezed = moved.squeezed;
-    Answer {
-        run: next,
-        status: moved.status,
-    }
+    answer_with(lanes, moved)
 }
 
 // Squeezes as many bytes of output as `out` holds.
@@ -124,33 +124,9 @@ pub fn squeeze(rate: usize, rounds: usize, limit: u64, run: Run, out: &mut [u8])
     ensures { λ r. ⌜ r ≡ answerOf (numbers rate rounds limit) run (Call.squeeze (length (now (out .entry)))) ⌝ }
     ensures { λ r. ⌜ now (out .exit) ≡ outputOf (numbers rate rounds limit) run (now (out .entry)) ⌝ }
 {
-    let refusal = sponge::call_status(rounds, rate, 0);
-    if refusal != status::DONE {
-        return Answer {
-            run,
-            status: refusal,
-        };
-    }
-    let mut next = run;
-    let moved = calls::squeeze(
-        rate,
-        rounds,
-        limit,
-        &mut next.lanes,
-        run.position,
-        run.phase,
-        run.absorbed,
-        run.squeezed,
-        out,
-    );
-    next.position = moved.position;
-    next.phase = moved.phase;
-    next.absorbed = moved.absorbed;
-    next.squeezed = moved.squeezed;
-    Answer {
-        run: next,
-        status: moved.status,
-    }
+    let mut lanes = run.lanes;
+    let moved = in_place::squeeze(rate, rounds, limit, &mut lanes, progress_of(run), out);
+    answer_with(lanes, moved)
 }
 
 // In one go: the message, the byte that follows it, with its own status, and as many bytes of output as `out` holds.

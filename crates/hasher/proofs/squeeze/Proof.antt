@@ -1,36 +1,20 @@
-use mathlib.Core.Path.{_≡_, sym, _∙_}
+use mathlib.Core.Path.{_≡_, ap, _∙_}
 use borrow.Author.Needs.{needs}
-use Rattle.sponge.specs.Model.{callStatus}
-use Rattle.sponge.specs.Transcript.{Call.squeeze}
 use lib.ListN.{length}
-use Rattle.hasher.specs.Model.{numbers}
-use Rattle.hasher.proofs.Guards.{numbers-fit, answer-refused, answer-is, output-refused, output-is}
+use Rattle.sponge.specs.Transcript.{Call.squeeze}
+use Rattle.hasher.specs.Model.{numbers, runWith, answerOf, outputOf}
+use Rattle.hasher.specs.declared.Progress.{Progress}
 use Rattle.hasher.proofs.squeeze.Statement.{statement}
 use Rattle.hasher.proofs.squeeze.Tie as tie
 
--- past the test
-was : (c : tie.Else1) → callStatus (c .before .before .before .args .rounds) (c .before .before .before .args .rate) 0 ≡ 0
-was c = sym (c .before .call-status .ensures) ∙ c .if1 .left
-
+-- the call on a copy of the lanes
 returns : tie.Need-returns
 returns c =
-    let a = c .before .before .before .args in
-    let n = c .before .call-status in (
-      answer-refused (numbers (a .rate) (a .rounds) (a .limit)) (a .run) (squeeze (length (a .out .now))) (n .result) (c .if1 .taken) (n .ensures),
-      output-refused (numbers (a .rate) (a .rounds) (a .limit)) (a .run) (a .out .now) (n .result) (c .if1 .taken) (n .ensures),
-    )
-
-squeeze-requires : tie.Need-squeeze-requires
-squeeze-requires c κs = numbers-fit _ _ (was (c .before .before))
-
-returns-2 : tie.Need-returns-2
-returns-2 c =
-    let past = c .before .before .before .before .before in
-    let a = past .before .before .before .args in
-    let n = c .before .before .squeeze in (
-      n .ensures .0 ∙ answer-is (numbers (a .rate) (a .rounds) (a .limit)) (was past) (a .run) (squeeze (length (a .out .now))),
-      n .ensures .1 ∙ output-is (numbers (a .rate) (a .rounds) (a .limit)) (was past) (a .run) (a .out .now),
+    let a = c .before .before .before .before .before .before .before .before .before .args in
+    let n = c .before .before .before .squeeze in (
+      c .answer-with .ensures ∙ n .ensures .0 ∙ ap (λ (t : Progress). answerOf (numbers (a .rate) (a .rounds) (a .limit)) (runWith (a .run .lanes) t) (squeeze (length (a .out .now)))) (c .before .before .before .before .before .progress-of .ensures),
+      n .ensures .1 ∙ ap (λ (t : Progress). outputOf (numbers (a .rate) (a .rounds) (a .limit)) (runWith (a .run .lanes) t) (a .out .now)) (c .before .before .before .before .before .progress-of .ensures),
     )
 
 pub squeeze-spec : {M : Type 1} → statement M
-squeeze-spec = tie.close (tie.spec (λ c κs. search needs) returns squeeze-requires (λ c. search needs) returns-2)
+squeeze-spec = tie.close (tie.spec (λ c κs. search needs) (λ c κs. search needs) (λ c κs. search needs) (λ c. search needs) returns)

@@ -17,15 +17,15 @@ use Rattle.hasher.proofs.calls.absorb.Statement.{statement}
 use Rattle.hasher.proofs.calls.absorb.Tie as tie
 
 -- past the first test the run is one that 5 does not refuse
-was : (c : tie.Else1) → reachable (c .before .before .before .args .rate) (c .before .before .before .args .limit) (c .before .before .before .args .position) (c .before .before .before .args .phase) (c .before .before .before .args .absorbed) (c .before .before .before .args .squeezed) ≡ true
+was : (c : tie.Else1) → reachable (c .before .before .before .args .rate) (c .before .before .before .args .limit) (c .before .before .before .args .at .position) (c .before .before .before .args .at .phase) (c .before .before .before .args .at .absorbed) (c .before .before .before .args .at .squeezed) ≡ true
 was c = sym (c .before .is-reachable .ensures) ∙ not-false _ (c .if1 .left)
 
-fit : (c : tie.Else1) → (c .before .before .before .args .position ≤ c .before .before .before .args .rate) × (c .before .before .before .args .absorbed ≤ messageLimit) × (c .before .before .before .args .squeezed ≤ c .before .before .before .args .limit)
+fit : (c : tie.Else1) → (c .before .before .before .args .at .position ≤ c .before .before .before .args .rate) × (c .before .before .before .args .at .absorbed ≤ messageLimit) × (c .before .before .before .args .at .squeezed ≤ c .before .before .before .args .limit)
 fit c =
     let a = c .before .before .before .args in
-    fits (numbers (a .rate) (a .rounds) (a .limit)) (runWith (a .lanes .now) (a .position) (a .phase) (a .absorbed) (a .squeezed)) (c .before .before .before .pre .0) (was c)
+    fits (numbers (a .rate) (a .rounds) (a .limit)) (runWith (a .lanes .now) (a .at)) (c .before .before .before .pre .0) (was c)
 
-ok : (c : tie.Else1) → callStatus (c .before .before .before .args .rounds) (c .before .before .before .args .rate) (c .before .before .before .args .position) ≡ 0
+ok : (c : tie.Else1) → callStatus (c .before .before .before .args .rounds) (c .before .before .before .args .rate) (c .before .before .before .args .at .position) ≡ 0
 ok c = fits-valid _ _ _ (c .before .before .before .pre .2) (fit c .0) (c .before .before .before .pre .0) (c .before .before .before .pre .1)
 
 is-reachable-requires : tie.Need-is-reachable-requires
@@ -43,25 +43,25 @@ refused-requires-3 c κs = search needs
 returns : tie.Need-returns
 returns c =
     let a = c .before .before .before .before .args in
-    let r : Run = runWith (a .lanes .now) (a .position) (a .phase) (a .absorbed) (a .squeezed) in
+    let r : Run = runWith (a .lanes .now) (a .at) in
     let e = status-5 (numbers (a .rate) (a .rounds) (a .limit)) r (absorb (a .piece .now)) (sym (c .before .before .is-reachable .ensures) ∙ not-true _ (c .before .if1 .taken)) in
     ap (λ (m : Moved). answered m (a .lanes .now)) (c .refused .ensures) ∙ answer-refused (numbers (a .rate) (a .rounds) (a .limit)) r (absorb (a .piece .now)) 4 e
 
 returns-2 : tie.Need-returns-2
 returns-2 c =
-    let a = c .before .before .before .before .before .args in
-    let r : Run = runWith (a .lanes .now) (a .position) (a .phase) (a .absorbed) (a .squeezed) in
-    let e = absorb-3 (numbers (a .rate) (a .rounds) (a .limit)) r (was (c .before .before)) (a .piece .now) (c .before .if2 .taken) in
+    let a = c .before .before .before .before .before .before .args in
+    let r : Run = runWith (a .lanes .now) (a .at) in
+    let e = absorb-3 (numbers (a .rate) (a .rounds) (a .limit)) r (was (c .before .before .before)) (a .piece .now) (c .before .if2 .taken) in
     ap (λ (m : Moved). answered m (a .lanes .now)) (c .refused2 .ensures) ∙ answer-refused (numbers (a .rate) (a .rounds) (a .limit)) r (absorb (a .piece .now)) 2 e
 
 add-total : tie.Need-add-total
-add-total c = let h = fit (c .before) in omega arith
+add-total c = let h = fit (c .before .before .before) in omega arith
 
 returns-3 : tie.Need-returns-3
 returns-3 c =
-    let a = c .before .before .before .before .before .before .args in
-    let r : Run = runWith (a .lanes .now) (a .position) (a .phase) (a .absorbed) (a .squeezed) in
-    let e = absorb-2 (numbers (a .rate) (a .rounds) (a .limit)) r (was (c .before .before .before)) (a .piece .now) (c .before .before .if2 .left) (c .before .if3 .taken) in
+    let a = c .before .before .before .before .before .before .before .before .args in
+    let r : Run = runWith (a .lanes .now) (a .at) in
+    let e = absorb-2 (numbers (a .rate) (a .rounds) (a .limit)) r (was (c .before .before .before .before .before)) (a .piece .now) (c .before .before .before .if2 .left) (c .before .if3 .taken) in
     ap (λ (m : Moved). answered m (a .lanes .now)) (c .refused3 .ensures) ∙ answer-refused (numbers (a .rate) (a .rounds) (a .limit)) r (absorb (a .piece .now)) 1 e
 
 absorb-requires : tie.Need-absorb-requires
@@ -69,10 +69,10 @@ absorb-requires c κs = search needs
 
 returns-4 : tie.Need-returns-4
 returns-4 c =
-    let a = c .before .before .before .before .before .before .before .args in
-    let r : Run = runWith (a .lanes .now) (a .position) (a .phase) (a .absorbed) (a .squeezed) in
-    let past = c .before .before .before .before in
-    let e = absorb-0 (numbers (a .rate) (a .rounds) (a .limit)) r (was past) (a .piece .now) (c .before .before .before .if2 .left) (c .before .before .if3 .left) in
+    let a = c .before .before .before .before .before .before .before .before .before .args in
+    let r : Run = runWith (a .lanes .now) (a .at) in
+    let past = c .before .before .before .before .before .before in
+    let e = absorb-0 (numbers (a .rate) (a .rounds) (a .limit)) r (was past) (a .piece .now) (c .before .before .before .before .if2 .left) (c .before .before .if3 .left) in
     absorb-answer (numbers (a .rate) (a .rounds) (a .limit)) r (ok past) (a .piece .now) (record { status = c .absorb .result .status; state = record { value = c .absorb .last .0; position = c .absorb .result .position } }) (c .absorb .ensures) e
 
 pub absorb-spec : {M : Type 1} → statement M

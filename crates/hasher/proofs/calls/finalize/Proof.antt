@@ -16,15 +16,15 @@ use Rattle.hasher.proofs.calls.finalize.Statement.{statement}
 use Rattle.hasher.proofs.calls.finalize.Tie as tie
 
 -- past the first test the run is one that 5 does not refuse
-was : (c : tie.Else1) → reachable (c .before .before .args .rate) (c .before .before .args .limit) (c .before .before .args .position) (c .before .before .args .phase) (c .before .before .args .absorbed) (c .before .before .args .squeezed) ≡ true
+was : (c : tie.Else1) → reachable (c .before .before .args .rate) (c .before .before .args .limit) (c .before .before .args .at .position) (c .before .before .args .at .phase) (c .before .before .args .at .absorbed) (c .before .before .args .at .squeezed) ≡ true
 was c = sym (c .before .is-reachable .ensures) ∙ not-false _ (c .if1 .left)
 
-fit : (c : tie.Else1) → (c .before .before .args .position ≤ c .before .before .args .rate) × (c .before .before .args .absorbed ≤ messageLimit) × (c .before .before .args .squeezed ≤ c .before .before .args .limit)
+fit : (c : tie.Else1) → (c .before .before .args .at .position ≤ c .before .before .args .rate) × (c .before .before .args .at .absorbed ≤ messageLimit) × (c .before .before .args .at .squeezed ≤ c .before .before .args .limit)
 fit c =
     let a = c .before .before .args in
-    fits (numbers (a .rate) (a .rounds) (a .limit)) (runWith (a .lanes .now) (a .position) (a .phase) (a .absorbed) (a .squeezed)) (c .before .before .pre .0) (was c)
+    fits (numbers (a .rate) (a .rounds) (a .limit)) (runWith (a .lanes .now) (a .at)) (c .before .before .pre .0) (was c)
 
-ok : (c : tie.Else1) → callStatus (c .before .before .args .rounds) (c .before .before .args .rate) (c .before .before .args .position) ≡ 0
+ok : (c : tie.Else1) → callStatus (c .before .before .args .rounds) (c .before .before .args .rate) (c .before .before .args .at .position) ≡ 0
 ok c = fits-valid _ _ _ (c .before .before .pre .2) (fit c .0) (c .before .before .pre .0) (c .before .before .pre .1)
 
 is-reachable-requires : tie.Need-is-reachable-requires
@@ -42,22 +42,22 @@ refused-requires-3 c κs = search needs
 returns : tie.Need-returns
 returns c =
     let a = c .before .before .before .args in
-    let r : Run = runWith (a .lanes .now) (a .position) (a .phase) (a .absorbed) (a .squeezed) in
+    let r : Run = runWith (a .lanes .now) (a .at) in
     let e = status-5 (numbers (a .rate) (a .rounds) (a .limit)) r (finalize (record { byte = a .last; status = a .refusal })) (sym (c .before .before .is-reachable .ensures) ∙ not-true _ (c .before .if1 .taken)) in
     ap (λ (m : Moved). answered m (a .lanes .now)) (c .refused .ensures) ∙ answer-refused (numbers (a .rate) (a .rounds) (a .limit)) r (finalize (record { byte = a .last; status = a .refusal })) 4 e
 
 returns-2 : tie.Need-returns-2
 returns-2 c =
-    let a = c .before .before .before .before .args in
-    let r : Run = runWith (a .lanes .now) (a .position) (a .phase) (a .absorbed) (a .squeezed) in
-    let e = finalize-3 (numbers (a .rate) (a .rounds) (a .limit)) r (was (c .before .before)) (record { byte = a .last; status = a .refusal }) (c .before .if2 .taken) in
+    let a = c .before .before .before .before .before .args in
+    let r : Run = runWith (a .lanes .now) (a .at) in
+    let e = finalize-3 (numbers (a .rate) (a .rounds) (a .limit)) r (was (c .before .before .before)) (record { byte = a .last; status = a .refusal }) (c .before .if2 .taken) in
     ap (λ (m : Moved). answered m (a .lanes .now)) (c .refused2 .ensures) ∙ answer-refused (numbers (a .rate) (a .rounds) (a .limit)) r (finalize (record { byte = a .last; status = a .refusal })) 2 e
 
 returns-3 : tie.Need-returns-3
 returns-3 c =
-    let a = c .before .before .before .before .before .args in
-    let r : Run = runWith (a .lanes .now) (a .position) (a .phase) (a .absorbed) (a .squeezed) in
-    let e = finalize-d (numbers (a .rate) (a .rounds) (a .limit)) r (was (c .before .before .before)) (record { byte = a .last; status = a .refusal }) (c .before .before .if2 .left) in
+    let a = c .before .before .before .before .before .before .args in
+    let r : Run = runWith (a .lanes .now) (a .at) in
+    let e = finalize-d (numbers (a .rate) (a .rounds) (a .limit)) r (was (c .before .before .before .before)) (record { byte = a .last; status = a .refusal }) (c .before .before .if2 .left) in
     ap (λ (m : Moved). answered m (a .lanes .now)) (c .refused3 .ensures) ∙ answer-other (numbers (a .rate) (a .rounds) (a .limit)) r (finalize (record { byte = a .last; status = a .refusal })) (a .refusal) (c .before .if3 .taken) e
 
 pad-requires : tie.Need-pad-requires
@@ -65,9 +65,9 @@ pad-requires c κs = search needs
 
 returns-4 : tie.Need-returns-4
 returns-4 c =
-    let a = c .before .before .before .before .before .before .args in
-    let r : Run = runWith (a .lanes .now) (a .position) (a .phase) (a .absorbed) (a .squeezed) in
-    let past = c .before .before .before .before in
+    let a = c .before .before .before .before .before .before .before .args in
+    let r : Run = runWith (a .lanes .now) (a .at) in
+    let past = c .before .before .before .before .before in
     let e = finalize-d (numbers (a .rate) (a .rounds) (a .limit)) r (was past) (record { byte = a .last; status = a .refusal }) (c .before .before .before .if2 .left) ∙ c .before .before .if3 .left in
     finalize-answer (numbers (a .rate) (a .rounds) (a .limit)) r (ok past) (record { byte = a .last; status = a .refusal }) (record { status = c .pad .result .status; state = record { value = c .pad .last .0; position = c .pad .result .position } }) (c .pad .ensures) e
 

@@ -18,15 +18,15 @@ use Rattle.hasher.proofs.calls.squeeze.Statement.{statement}
 use Rattle.hasher.proofs.calls.squeeze.Tie as tie
 
 -- past the first test the run is one that 5 does not refuse
-was : (c : tie.Else1) → reachable (c .before .before .before .args .rate) (c .before .before .before .args .limit) (c .before .before .before .args .position) (c .before .before .before .args .phase) (c .before .before .before .args .absorbed) (c .before .before .before .args .squeezed) ≡ true
+was : (c : tie.Else1) → reachable (c .before .before .before .args .rate) (c .before .before .before .args .limit) (c .before .before .before .args .at .position) (c .before .before .before .args .at .phase) (c .before .before .before .args .at .absorbed) (c .before .before .before .args .at .squeezed) ≡ true
 was c = sym (c .before .is-reachable .ensures) ∙ not-false _ (c .if1 .left)
 
-fit : (c : tie.Else1) → (c .before .before .before .args .position ≤ c .before .before .before .args .rate) × (c .before .before .before .args .absorbed ≤ messageLimit) × (c .before .before .before .args .squeezed ≤ c .before .before .before .args .limit)
+fit : (c : tie.Else1) → (c .before .before .before .args .at .position ≤ c .before .before .before .args .rate) × (c .before .before .before .args .at .absorbed ≤ messageLimit) × (c .before .before .before .args .at .squeezed ≤ c .before .before .before .args .limit)
 fit c =
     let a = c .before .before .before .args in
-    fits (numbers (a .rate) (a .rounds) (a .limit)) (runWith (a .lanes .now) (a .position) (a .phase) (a .absorbed) (a .squeezed)) (c .before .before .before .pre .0) (was c)
+    fits (numbers (a .rate) (a .rounds) (a .limit)) (runWith (a .lanes .now) (a .at)) (c .before .before .before .pre .0) (was c)
 
-ok : (c : tie.Else1) → callStatus (c .before .before .before .args .rounds) (c .before .before .before .args .rate) (c .before .before .before .args .position) ≡ 0
+ok : (c : tie.Else1) → callStatus (c .before .before .before .args .rounds) (c .before .before .before .args .rate) (c .before .before .before .args .at .position) ≡ 0
 ok c = fits-valid _ _ _ (c .before .before .before .pre .2) (fit c .0) (c .before .before .before .pre .0) (c .before .before .before .pre .1)
 
 is-reachable-requires : tie.Need-is-reachable-requires
@@ -44,29 +44,29 @@ refused-requires-3 c κs = search needs
 returns : tie.Need-returns
 returns c =
     let a = c .before .before .before .before .args in
-    let r : Run = runWith (a .lanes .now) (a .position) (a .phase) (a .absorbed) (a .squeezed) in
+    let r : Run = runWith (a .lanes .now) (a .at) in
     let e = status-5 (numbers (a .rate) (a .rounds) (a .limit)) r (squeeze (length (a .out .now))) (sym (c .before .before .is-reachable .ensures) ∙ not-true _ (c .before .if1 .taken)) in
     (ap (λ (m : Moved). answered m (a .lanes .now)) (c .refused .ensures) ∙ answer-refused (numbers (a .rate) (a .rounds) (a .limit)) r (squeeze (length (a .out .now))) 4 e, output-refused (numbers (a .rate) (a .rounds) (a .limit)) r (a .out .now) 4 e)
 
 returns-2 : tie.Need-returns-2
 returns-2 c =
-    let a = c .before .before .before .before .before .args in
-    let r : Run = runWith (a .lanes .now) (a .position) (a .phase) (a .absorbed) (a .squeezed) in
-    let e = squeeze-3 (numbers (a .rate) (a .rounds) (a .limit)) r (was (c .before .before)) (length (a .out .now)) (c .before .if2 .taken) in
+    let a = c .before .before .before .before .before .before .args in
+    let r : Run = runWith (a .lanes .now) (a .at) in
+    let e = squeeze-3 (numbers (a .rate) (a .rounds) (a .limit)) r (was (c .before .before .before)) (length (a .out .now)) (c .before .if2 .taken) in
     (ap (λ (m : Moved). answered m (a .lanes .now)) (c .refused2 .ensures) ∙ answer-refused (numbers (a .rate) (a .rounds) (a .limit)) r (squeeze (length (a .out .now))) 2 e, output-refused (numbers (a .rate) (a .rounds) (a .limit)) r (a .out .now) 2 e)
 
 sub-if3 : tie.Need-sub-if3
-sub-if3 c = let h = fit (c .before) in omega arith
+sub-if3 c = let h = fit (c .before .before .before) in omega arith
 
 returns-3 : tie.Need-returns-3
 returns-3 c =
-    let a = c .before .before .before .before .before .before .args in
-    let r : Run = runWith (a .lanes .now) (a .position) (a .phase) (a .absorbed) (a .squeezed) in
-    let e = squeeze-6 (numbers (a .rate) (a .rounds) (a .limit)) r (was (c .before .before .before)) (length (a .out .now)) (c .before .before .if2 .left) (let h = fit (c .before .before .before) in omega (arith, c .before .if3 .taken)) in
+    let a = c .before .before .before .before .before .before .before .before .args in
+    let r : Run = runWith (a .lanes .now) (a .at) in
+    let e = squeeze-6 (numbers (a .rate) (a .rounds) (a .limit)) r (was (c .before .before .before .before .before)) (length (a .out .now)) (c .before .before .before .if2 .left) (let h = fit (c .before .before .before .before .before) in omega (arith, c .before .if3 .taken)) in
     (ap (λ (m : Moved). answered m (a .lanes .now)) (c .refused3 .ensures) ∙ answer-refused (numbers (a .rate) (a .rounds) (a .limit)) r (squeeze (length (a .out .now))) 5 e, output-refused (numbers (a .rate) (a .rounds) (a .limit)) r (a .out .now) 5 e)
 
 add-total : tie.Need-add-total
-add-total c = let h = fit (c .before .before) in omega arith
+add-total c = let h = fit (c .before .before .before .before .before) in omega arith
 
 squeeze-requires : tie.Need-squeeze-requires
 squeeze-requires c κs = search needs
@@ -76,11 +76,11 @@ same-length c = search needs
 
 returns-4 : tie.Need-returns-4
 returns-4 c =
-    let a = c .before .before .before .before .before .before .before .before .before .before .args in
-    let r : Run = runWith (a .lanes .now) (a .position) (a .phase) (a .absorbed) (a .squeezed) in
+    let a = c .before .before .before .before .before .before .before .before .before .before .before .before .before .args in
+    let r : Run = runWith (a .lanes .now) (a .at) in
     let q = c .before .before .squeeze in
-    let past = c .before .before .before .before .before .before .before in
-    let e = squeeze-0 (numbers (a .rate) (a .rounds) (a .limit)) r (was past) (length (a .out .now)) (c .before .before .before .before .before .before .if2 .left) (let h = fit past in omega (arith, c .before .before .before .before .before .if3 .left)) in (
+    let past = c .before .before .before .before .before .before .before .before .before .before in
+    let e = squeeze-0 (numbers (a .rate) (a .rounds) (a .limit)) r (was past) (length (a .out .now)) (c .before .before .before .before .before .before .before .before .if2 .left) (let h = fit past in omega (arith, c .before .before .before .before .before .before .if3 .left)) in (
       squeeze-answer (numbers (a .rate) (a .rounds) (a .limit)) r (ok past) (length (a .out .now)) (record { status = q .result .status; state = record { value = q .last .0; position = q .result .position } }) (q .ensures .0) e,
       q .ensures .1 ∙ squeeze-written (numbers (a .rate) (a .rounds) (a .limit)) r (ok past) (a .out .now) e,
     )
