@@ -1,5 +1,6 @@
-// The functions of FIPS 202, section 6, for messages of whole bytes, in one go and in pieces: a type for each, whose calls stand in `sha3` and
-// `shake`. They are `hasher`'s, given the function's numbers.
+// The functions of FIPS 202, section 6, for messages of whole bytes, in one go and in pieces: a type for each, whose calls stand in `sha3`, `shake`
+// and, on lent lanes, in `in_place`. They are `hasher`'s, given the function's numbers.
+mod in_place;
 mod sha3;
 mod shake;
 

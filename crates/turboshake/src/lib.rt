@@ -1,4 +1,7 @@
 // TurboSHAKE128 and TurboSHAKE256: draft-irtf-cfrg-kangarootwelve-16, section 2, in one go and in pieces: a type for each strength.
+// Their calls on lent lanes stand in `in_place`.
+mod in_place;
+
 ghost use mathlib.Core.Path.{_≡_};
 ghost use lib.ListN.{length};
 ghost use Rattle.sponge.specs.Transcript.{Call};
