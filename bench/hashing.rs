@@ -3,29 +3,67 @@ use crate::measure;
 use std::time::Instant;
 
 pub type Digest = [u8; 32];
-/// How the message is absorbed: in pieces of so many bytes, or in one go.
-pub type Way = Option<usize>;
+/// The bytes of a piece, or none in one go.
+pub type Step = Option<usize>;
 
-/// The two ways of a proved hash: crates/bench/src, where a slice passes as a pointer and a length.
+/// How a message is hashed: in pieces of so many bytes, by calls that take a run and give one back or by calls on lent lanes, or in one go.
+#[derive(Clone, Copy)]
+pub enum Way {
+    Pieces(usize),
+    InPlace(usize),
+    OneGo,
+}
+
+/// The ways of a proved hash: crates/bench/src, where a slice passes as a pointer and a length. Not every one has calls on lent lanes.
 pub type Pieces = unsafe extern "C" fn(*const u8, usize, usize, *mut u8, usize) -> u8;
 pub type OneGo = unsafe extern "C" fn(*const u8, usize, *mut u8, usize) -> u8;
 
+pub struct Proved {
+    pub pieces: Pieces,
+    pub in_place: Option<Pieces>,
+    pub one_go: OneGo,
+}
+
 pub enum Hash {
-    Proved(Pieces, OneGo),
-    Rust(fn(&[u8], Way, &mut Digest)),
+    Proved(Proved),
+    Rust(fn(&[u8], Step, &mut Digest)),
+}
+
+impl Way {
+    fn read(word: &str) -> Way {
+        match word.strip_suffix("-in-place") {
+            Some(step) => Way::InPlace(step.parse().unwrap()),
+            None if word == "one" => Way::OneGo,
+            None => Way::Pieces(word.parse().unwrap()),
+        }
+    }
+
+    fn words(self) -> String {
+        match self {
+            Way::Pieces(step) => format!("in pieces of {step} bytes"),
+            Way::InPlace(step) => format!("in pieces of {step} bytes in place"),
+            Way::OneGo => "in one go".into(),
+        }
+    }
 }
 
 /// A hash by its name, and the versions of it.
 pub type Function<'a> = (&'a str, &'a [(&'a str, Hash)]);
 
 impl Hash {
+    fn has(&self, way: Way) -> bool {
+        !matches!((self, way), (Hash::Proved(Proved { in_place: None, .. }), Way::InPlace(_)))
+    }
+
     fn call(&self, message: &[u8], way: Way, out: &mut Digest) {
         let (input, size, output) = (message.as_ptr(), message.len(), out.as_mut_ptr());
         // The callees read the message, write the output, and keep neither.
         let status = match (self, way) {
-            (Hash::Proved(pieces, _), Some(step)) => unsafe { pieces(input, size, step, output, out.len()) },
-            (Hash::Proved(_, one_go), None) => unsafe { one_go(input, size, output, out.len()) },
-            (Hash::Rust(f), _) => return f(message, way, out),
+            (Hash::Proved(f), Way::Pieces(step)) => unsafe { (f.pieces)(input, size, step, output, out.len()) },
+            (Hash::Proved(f), Way::InPlace(step)) => unsafe { f.in_place.unwrap()(input, size, step, output, out.len()) },
+            (Hash::Proved(f), Way::OneGo) => unsafe { (f.one_go)(input, size, output, out.len()) },
+            (Hash::Rust(f), Way::Pieces(step) | Way::InPlace(step)) => return f(message, Some(step), out),
+            (Hash::Rust(f), Way::OneGo) => return f(message, None, out),
         };
         assert_eq!(status, 0, "the proved one refuses");
     }
@@ -44,20 +82,22 @@ fn timed(hash: &Hash, message: &[u8], way: Way) -> (f64, Digest) {
     (start.elapsed().as_secs_f64() * 1e3, out)
 }
 
+/// Those of the versions that have the way; none where the first, the proved one, has not.
 fn compare(&(name, versions): &Function, size: usize, repeats: usize) {
     let message = pattern(size << 20);
-    for way in [Some(4096), Some(7), None] {
-        let cut = way.map_or("in one go".into(), |step| format!("in pieces of {step} bytes"));
-        let what = format!("{name} of {size} MiB {cut}, ms for all");
-        measure::compare(&what, "ms", repeats, versions, |hash| timed(hash, &message, way));
+    for way in [Way::Pieces(4096), Way::Pieces(7), Way::InPlace(7), Way::OneGo] {
+        let those: Vec<(&str, &Hash)> = versions.iter().filter(|(_, hash)| hash.has(way)).map(|(name, hash)| (*name, hash)).collect();
+        if versions[0].1.has(way) {
+            let what = format!("{name} of {size} MiB {}, ms for all", way.words());
+            measure::compare(&what, "ms", repeats, &those, |hash| timed(hash, &message, way));
+        }
     }
 }
 
 /// The pattern is made in full whatever N is, so that two counts differ by the hashing alone.
 fn once(hash: &Hash, way: &str, size: &str) {
     let message = pattern(1 << 20);
-    let way = if way == "one" { None } else { Some(way.parse().unwrap()) };
-    println!("{:02x?}", timed(hash, &message[..size.parse().unwrap()], way).1);
+    println!("{:02x?}", timed(hash, &message[..size.parse().unwrap()], Way::read(way)).1);
 }
 
 fn found<'a, T>(named: &'a [(&str, T)], name: &str) -> &'a T {
@@ -74,6 +114,6 @@ pub fn run(functions: &[Function]) {
             let versions = *found(functions, function);
             once(found(versions, version), way, n)
         }
-        _ => panic!("compare | VERSION FUNCTION STEP|one N"),
+        _ => panic!("compare | VERSION FUNCTION STEP|STEP-in-place|one N"),
     }
 }

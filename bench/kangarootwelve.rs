@@ -12,7 +12,7 @@ mod lanes;
 mod measure;
 mod sponge;
 
-use hashing::{pattern, Digest, Hash, Way};
+use hashing::{pattern, Digest, Hash, Proved, Step};
 use kt128::{kt128, Kt128, CHUNK};
 
 extern "C" {
@@ -28,8 +28,8 @@ extern "C" {
 }
 
 #[inline(never)]
-fn rust(message: &[u8], way: Way, out: &mut Digest) {
-    match way {
+fn rust(message: &[u8], step: Step, out: &mut Digest) {
+    match step {
         Some(step) => {
             let mut run = Kt128::new();
             message.chunks(step).for_each(|piece| run.update(piece));
@@ -75,9 +75,9 @@ fn main() {
         check();
     }
     let versions = [
-        ("rattle", Hash::Proved(bench_kt_pieces, bench_kt_one_go)),
+        ("rattle", Hash::Proved(Proved { pieces: bench_kt_pieces, in_place: None, one_go: bench_kt_one_go })),
         #[cfg(before)]
-        ("before", Hash::Proved(before_kt_pieces, before_kt_one_go)),
+        ("before", Hash::Proved(Proved { pieces: before_kt_pieces, in_place: None, one_go: before_kt_one_go })),
         ("rust", Hash::Rust(rust)),
     ];
     hashing::run(&[("KT128", &versions)]);

@@ -1,5 +1,5 @@
 //! SHA3-256 and SHAKE128 of OpenSSL's libcrypto, which has the permutation in assembly.
-use crate::hashing::{Digest, Way};
+use crate::hashing::{Digest, Step};
 use std::ffi::{c_char, c_int, c_uint, c_void, CStr};
 use std::ptr::null_mut;
 
@@ -22,13 +22,13 @@ pub fn version() -> String {
 }
 
 /// Absorbs the message into a run of the function, one call for each piece, and has `end` write the output.
-fn hash(function: *const c_void, message: &[u8], way: Way, end: impl FnOnce(*mut c_void) -> c_int) {
-    let step = way.unwrap_or(message.len().max(1));
+fn hash(function: *const c_void, message: &[u8], step: Step, end: impl FnOnce(*mut c_void) -> c_int) {
+    let size = step.unwrap_or(message.len().max(1));
     // The library reads the message and keeps none of it; the run is freed here.
     unsafe {
         let run = EVP_MD_CTX_new();
         assert_eq!(EVP_DigestInit_ex(run, function, null_mut()), 1);
-        for piece in message.chunks(step) {
+        for piece in message.chunks(size) {
             assert_eq!(EVP_DigestUpdate(run, piece.as_ptr().cast(), piece.len()), 1);
         }
         assert_eq!(end(run), 1);
@@ -36,11 +36,11 @@ fn hash(function: *const c_void, message: &[u8], way: Way, end: impl FnOnce(*mut
     }
 }
 
-pub fn sha3_256(message: &[u8], way: Way, out: &mut Digest) {
+pub fn sha3_256(message: &[u8], step: Step, out: &mut Digest) {
     // A digest has as many bytes as `out`.
-    hash(unsafe { EVP_sha3_256() }, message, way, |run| unsafe { EVP_DigestFinal_ex(run, out.as_mut_ptr(), null_mut()) });
+    hash(unsafe { EVP_sha3_256() }, message, step, |run| unsafe { EVP_DigestFinal_ex(run, out.as_mut_ptr(), null_mut()) });
 }
 
-pub fn shake128(message: &[u8], way: Way, out: &mut Digest) {
-    hash(unsafe { EVP_shake128() }, message, way, |run| unsafe { EVP_DigestFinalXOF(run, out.as_mut_ptr(), out.len()) });
+pub fn shake128(message: &[u8], step: Step, out: &mut Digest) {
+    hash(unsafe { EVP_shake128() }, message, step, |run| unsafe { EVP_DigestFinalXOF(run, out.as_mut_ptr(), out.len()) });
 }
