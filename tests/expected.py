@@ -171,8 +171,9 @@ def types_output():
 
     The run gets two pieces and the close, gives `size` bytes in two reads and one byte more, and is fed after the close. In one go `size` bytes are
     asked, and one more. SHA3's digest has a length; of the others 32 bytes are asked at the rate 168 and 64 at the rate 136. TurboSHAKE's D is 1F.
+    Then a line for each of the same run on lent lanes, which is the same run.
     """
-    message, lines = reference.ptn(200), []
+    message, lines, in_place = reference.ptn(200), [], []
     for number, function in SPONGE.items():
         domain = 0x1F if number in TURBOSHAKE else None
         size = function.digest or transcript.CHAINING[function.rate]
@@ -180,11 +181,17 @@ def types_output():
         statuses = [run.absorb(message[:67]), run.absorb(message[67:]), run.finalize(domain)]
         reads = [(run.squeeze(asked), asked) for asked in (10, size - 10, 1)]
         statuses += [status for (status, _), _ in reads] + [run.absorb(message[67:])]
+        in_place.append(f"{function.name} in place {''.join(map(str, statuses))} {bytes_of(reads)}")
         reads += [(one_go.sponge(function, message, domain, asked), asked) for asked in (size, size + 1)]
         statuses += [status for (status, _), _ in reads[3:]]
-        first, *rest = ((BEFORE * asked if given is None else given).hex() for (_, given), asked in reads)
-        lines.append(f"{function.name} {''.join(map(str, statuses))} {first}{' '.join(rest)}")
-    return "\n".join(lines) + "\n"
+        lines.append(f"{function.name} {''.join(map(str, statuses))} {bytes_of(reads)}")
+    return "\n".join(lines + in_place) + "\n"
+
+
+def bytes_of(reads):
+    """The digits of the bytes of each read, or of what the buffer held before; the first two joined."""
+    first, *rest = ((BEFORE * asked if given is None else given).hex() for (_, given), asked in reads)
+    return f"{first}{' '.join(rest)}"
 
 
 OUTPUTS = {"vectors": vectors_output, "edges": edges_output, "day": day_output, "types": types_output}

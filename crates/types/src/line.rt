@@ -18,8 +18,8 @@ fn digit(status: u8) -> u8 {
     if status < 10 { b'0' + status } else { b'?' }
 }
 
-// Writes a space and the digits of the statuses.
-fn write_statuses(run: Statuses, hashed: u8, long: u8) -> bool {
+// Writes the digits of the statuses of a run, and a space before them.
+fn write_statuses(run: Statuses) -> bool {
     let text = [
         b' ',
         digit(run.first),
@@ -29,9 +29,6 @@ fn write_statuses(run: Statuses, hashed: u8, long: u8) -> bool {
         digit(run.rest),
         digit(run.more),
         digit(run.late),
-        digit(hashed),
-        digit(long),
-        b' ',
     ];
     io::write_all(STDOUT_FILENO, &text)
 }
@@ -66,10 +63,26 @@ pub fn write_line(
     requires { ⌜ length (now long) ≤ 65 ⌝ }
 {
     io::write_all(STDOUT_FILENO, name)
-        && write_statuses(run, hashed, longer)
+        && write_statuses(run)
+        && io::write_all(STDOUT_FILENO, &[digit(hashed), digit(longer), b' '])
         && write_part(x, b"")
         && write_part(y, b" ")
         && write_part(z, b" ")
         && write_part(one, b" ")
         && write_part(long, b"\n")
+}
+
+// The same of a run on lent lanes.
+pub fn write_run(name: &[u8], run: Statuses, x: &[u8], y: &[u8], z: &[u8]) -> bool
+    requires { ⌜ length (now x) ≤ 65 ⌝ }
+    requires { ⌜ length (now y) ≤ 65 ⌝ }
+    requires { ⌜ length (now z) ≤ 65 ⌝ }
+{
+    io::write_all(STDOUT_FILENO, name)
+        && io::write_all(STDOUT_FILENO, b" in place")
+        && write_statuses(run)
+        && io::write_all(STDOUT_FILENO, b" ")
+        && write_part(x, b"")
+        && write_part(y, b" ")
+        && write_part(z, b"\n")
 }

@@ -1,5 +1,7 @@
 // Runs each type's own calls: on a run of 32 or 64 bytes of output, of SHA-3 the digest, and one byte more, and in one go. Writes a line for each function: a digit for the status of each call, the bytes of the run,
 // the byte that follows them, the bytes of the call in one go, and those of one that asks for a byte more. Each buffer held A5 in every byte before.
+// Then a line for each function of the same run on lent lanes.
+mod in_place;
 mod line;
 
 ghost use Prim.Native.Nat.{_≤_};
@@ -359,17 +361,23 @@ fn write_shake256(message: &[u8]) -> bool
     line::write_line(b"SHAKE256", run, hashed, longer, &x, &y, &z, &one, &long)
 }
 
+fn write_runs(message: &[u8]) -> bool
+    requires { ⌜ 67 ≤ length (now message) ⌝ }
+{
+    write_turboshake128(message)
+        && write_turboshake256(message)
+        && write_sha3_224(message)
+        && write_sha3_256(message)
+        && write_sha3_384(message)
+        && write_sha3_512(message)
+        && write_shake128(message)
+        && write_shake256(message)
+}
+
 fn main() {
     let mut message = [0u8; 200];
     fill(&mut message);
-    if write_turboshake128(&message)
-        && write_turboshake256(&message)
-        && write_sha3_224(&message)
-        && write_sha3_256(&message)
-        && write_sha3_384(&message)
-        && write_sha3_512(&message)
-        && write_shake128(&message)
-    {
-        write_shake256(&message);
+    if write_runs(&message) {
+        in_place::write_runs(&message);
     }
 }
