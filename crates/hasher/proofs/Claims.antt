@@ -17,7 +17,7 @@ use Rattle.sponge.proofs.Corollaries.{history-held}
 use Rattle.sponge.proofs.Reachable as generic
 use Rattle.sponge.proofs.Done as done
 use Rattle.hasher.specs.Function.{Function, output, rules}
-use Rattle.hasher.specs.Model.{machine, seen, held, freshOf, performOf, writtenOf, answer, written, replyOf, oneGoStatus, oneGoOutput}
+use Rattle.hasher.specs.Model.{machine, seen, held, freshOf, performOf, writtenOf, answer, written, replyOf, progressOf, runWith, oneGoStatus, oneGoOutput}
 use Rattle.hasher.specs.Claims.{Meets, told, ran, Streaming, Calls, Joins, Callable, Reached, Five, OneGo, Claims}
 use Rattle.hasher.specs.declared.Run.{Run}
 use Rattle.hasher.specs.declared.Answer.{Answer}
@@ -105,10 +105,16 @@ module _ {A : Type 0} (F : Function A) (E : Meets F) where
   unfolding replyOf
   done-output r out e = written-done r out (first-done r (squeeze (length out)) e)
 
+  refused : (r : Run) (c : Call A) (n : ℕ) → answer F r c .status ≡ suc n → answer F r c .run ≡ r
+  refused r c n e = run-is r c ∙ ap held (corollaries F E .refusals .refused (seen r) c n (sym (status-is r c) ∙ e) .0)
+
   calls : Calls F
   calls = record {
-    refused = λ r c n e. run-is r c ∙ ap held (corollaries F E .refusals .refused (seen r) c n (sym (status-is r c) ∙ e) .0);
+    refused = refused;
     refused-output = refused-output;
+    refused-lent = λ lanes at c m left n e s.
+        let r : runWith left (m .at) ≡ runWith lanes at = ap (λ (x : Answer). x .run) e ∙ refused (runWith lanes at) c n (sym (ap (λ (x : Answer). x .status) e) ∙ s) in
+        (ap (λ (q : Run). q .lanes) r, ap progressOf r);
     done-output = done-output;
     absorb-grows = λ r p e. ap (λ (q : Run). q .absorbed) (run-is r (absorb p)) ∙ corollaries F E .refusals .absorb-grows (seen r) p (first-done r (absorb p) e);
   }

@@ -13,8 +13,10 @@ use Rattle.sponge.specs.Model.{callStatus}
 use Rattle.sponge.specs.Runs.{runOf}
 use Rattle.sponge.specs.Streaming.{History, history, joined}
 use Rattle.hasher.specs.Function.{Function, output, rules}
-use Rattle.hasher.specs.Model.{machine, held, freshOf, answer, written, replyOf, oneGoStatus, oneGoOutput}
+use Rattle.hasher.specs.Model.{machine, held, freshOf, answer, written, replyOf, runWith, answered, oneGoStatus, oneGoOutput}
 use Rattle.hasher.specs.declared.Run.{Run}
+use Rattle.hasher.specs.declared.Progress.{Progress}
+use Rattle.hasher.specs.declared.Moved.{Moved}
 
 module _ {A : Type 0} (F : Function A) where
   -- what a function owes: a rate and a number of rounds that are taken, an argument of the close that is and whose byte is one, that no argument
@@ -53,6 +55,9 @@ module _ {A : Type 0} (F : Function A) where
     -- a refused call hands the run back, and leaves the lent output as it was
     pub refused : (r : Run) (c : Call A) (n : ℕ) → answer F r c .status ≡ suc n → answer F r c .run ≡ r
     pub refused-output : (r : Run) (out : List ℕ) (n : ℕ) → answer F r (squeeze (length out)) .status ≡ suc n → written F r out ≡ out
+    -- and whatever meets the contract of a call on lent lanes leaves them, and what was given beside them, as they were
+    pub refused-lent : (lanes : List ℕ) (at : Progress) (c : Call A) (m : Moved) (left : List ℕ) (n : ℕ) → answered m left ≡ answer F (runWith lanes at) c → m .status ≡ suc n
+        → (left ≡ lanes) × (m .at ≡ at)
     -- a done squeeze leaves in the lent output the bytes that the list theorem speaks of
     pub done-output : (r : Run) (out : List ℕ) → answer F r (squeeze (length out)) .status ≡ 0 → written F r out ≡ replyOf F r (squeeze (length out)) .bytes
     -- a done absorb took every byte of its piece
