@@ -37,35 +37,7 @@ pub extern "C" fn bench_sha3_pieces(message: &[u8], step: usize, out: &mut [u8])
     squeezed.status
 }
 
-// The same, with the lanes lent.
-#[no_mangle]
-pub extern "C" fn bench_sha3_in_place(message: &[u8], step: usize, out: &mut [u8]) -> u8
-    ensures { λ r. ⌜ r ≡ piecesStatus sha3-256 step (length (now (message .entry))) (length (now (out .entry))) ⌝ }
-    ensures { λ r. ⌜ now (out .exit) ≡ piecesOutput sha3-256 step (now (message .entry)) (now (out .entry)) ⌝ }
-{
-    if step == 0 {
-        return BAD_STEP;
-    }
-    let fresh = Sha3_256::fresh();
-    let run = fresh.run;
-    let mut lanes = run.lanes;
-    let mut at = hasher::progress_of(run);
-    let mut i = 0;
-    while i < message.len() {
-        let k = least(step, message.len() - i);
-        let moved = Sha3_256::absorb_in_place(&mut lanes, at, &message[i..i + k]);
-        at = moved.at;
-        if moved.status != status::DONE {
-            return moved.status;
-        }
-        i += k;
-    }
-    let finalized = Sha3_256::finalize_in_place(&mut lanes, at);
-    let squeezed = Sha3_256::squeeze_in_place(&mut lanes, finalized.at, out);
-    squeezed.status
-}
-
-// In one go.
+// The same in one go.
 #[no_mangle]
 pub extern "C" fn bench_sha3_one_go(message: &[u8], out: &mut [u8]) -> u8
     ensures { λ r. ⌜ r ≡ oneGoStatus transcript.sha3-256 (length (now (message .entry))) tt (length (now (out .entry))) ⌝ }
@@ -101,35 +73,7 @@ pub extern "C" fn bench_shake_pieces(message: &[u8], step: usize, out: &mut [u8]
     squeezed.status
 }
 
-// The same, with the lanes lent.
-#[no_mangle]
-pub extern "C" fn bench_shake_in_place(message: &[u8], step: usize, out: &mut [u8]) -> u8
-    ensures { λ r. ⌜ r ≡ piecesStatus shake128 step (length (now (message .entry))) (length (now (out .entry))) ⌝ }
-    ensures { λ r. ⌜ now (out .exit) ≡ piecesOutput shake128 step (now (message .entry)) (now (out .entry)) ⌝ }
-{
-    if step == 0 {
-        return BAD_STEP;
-    }
-    let fresh = Shake128::fresh();
-    let run = fresh.run;
-    let mut lanes = run.lanes;
-    let mut at = hasher::progress_of(run);
-    let mut i = 0;
-    while i < message.len() {
-        let k = least(step, message.len() - i);
-        let moved = Shake128::absorb_in_place(&mut lanes, at, &message[i..i + k]);
-        at = moved.at;
-        if moved.status != status::DONE {
-            return moved.status;
-        }
-        i += k;
-    }
-    let finalized = Shake128::finalize_in_place(&mut lanes, at);
-    let squeezed = Shake128::squeeze_in_place(&mut lanes, finalized.at, out);
-    squeezed.status
-}
-
-// In one go.
+// The same in one go.
 #[no_mangle]
 pub extern "C" fn bench_shake_one_go(message: &[u8], out: &mut [u8]) -> u8
     ensures { λ r. ⌜ r ≡ oneGoStatus transcript.shake128 (length (now (message .entry))) tt (length (now (out .entry))) ⌝ }

@@ -1,5 +1,6 @@
 // What the benchmarks of bench/ call through the C calling convention.
 mod fips;
+mod in_place;
 mod kt;
 
 ghost use mathlib.Core.Path.{_≡_};
@@ -61,35 +62,7 @@ pub extern "C" fn bench_pieces(message: &[u8], step: usize, out: &mut [u8]) -> u
     squeezed.status
 }
 
-// The same, with the lanes lent.
-#[no_mangle]
-pub extern "C" fn bench_in_place(message: &[u8], step: usize, out: &mut [u8]) -> u8
-    ensures { λ r. ⌜ r ≡ piecesStatus turboshakeWith1F step (length (now (message .entry))) (length (now (out .entry))) ⌝ }
-    ensures { λ r. ⌜ now (out .exit) ≡ piecesOutput turboshakeWith1F step (now (message .entry)) (now (out .entry)) ⌝ }
-{
-    if step == 0 {
-        return BAD_STEP;
-    }
-    let fresh = TurboShake128::fresh();
-    let run = fresh.run;
-    let mut lanes = run.lanes;
-    let mut at = hasher::progress_of(run);
-    let mut i = 0;
-    while i < message.len() {
-        let k = least(step, message.len() - i);
-        let moved = TurboShake128::absorb_in_place(&mut lanes, at, &message[i..i + k]);
-        at = moved.at;
-        if moved.status != sponge::status::DONE {
-            return moved.status;
-        }
-        i += k;
-    }
-    let finalized = TurboShake128::finalize_in_place(&mut lanes, at, DOMAIN);
-    let squeezed = TurboShake128::squeeze_in_place(&mut lanes, finalized.at, out);
-    squeezed.status
-}
-
-// In one go.
+// The same in one go.
 #[no_mangle]
 pub extern "C" fn bench_one_go(message: &[u8], out: &mut [u8]) -> u8
     ensures { λ r. ⌜ r ≡ oneGoStatus (function 168) (length (now (message .entry))) 0x1F (length (now (out .entry))) ⌝ }
