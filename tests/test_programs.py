@@ -64,9 +64,12 @@ class Output(unittest.TestCase):
         self.assertEqual(shift[1], reference.turboshake(168, *reference.final_node(168, 32, s), 32).hex())
 
     def test_types(self):
-        """A line for each function. The read and the call in one go past SHA3's digest answer 6 and leave A5; the bytes of FIPS 202 are hashlib's."""
-        lines = [line.split(" ") for line in expected.types_output().splitlines()]
+        """A line for each function, and one of the same run on lent lanes. The read and the call in one go past SHA3's digest answer 6 and leave A5; the
+        bytes of FIPS 202 are hashlib's."""
+        told = [line.split(" ") for line in expected.types_output().splitlines()]
+        lines, in_place = told[: len(SPONGE)], told[len(SPONGE) :]
         self.assertEqual([name for name, *_ in lines], [function.name for function in SPONGE.values()])
+        self.assertEqual(in_place, [[name, "in", "place", statuses[:7], run, more] for name, statuses, run, more, *_ in lines])
         self.assertEqual([statuses for _, statuses, *_ in lines], 2 * ["000000300"] + 4 * ["000006306"] + 2 * ["000000300"])
         sizes = [32, 64, 28, 32, 48, 64, 32, 64]
         for (name, statuses, run, more, one, long), size in zip(lines, sizes):

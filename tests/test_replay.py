@@ -3,6 +3,7 @@ rules.
 
 Needs target/bin/replay, which `rt check` and `rt ci` leave.
 """
+import itertools
 import random
 import unittest
 
@@ -54,6 +55,18 @@ class Lists(Held):
                 for size in (asked // 2, 0, asked - asked // 2, 1):
                     calls.squeeze(size)
                     calls.dump()
+        self.hold(calls)
+
+    def test_short_pieces(self):
+        """Pieces of up to nine bytes at every position of the second block, whose lanes the first one's permutation has filled."""
+        calls = Calls()
+        for number, function in SPONGE.items():
+            for position, size in itertools.product(range(function.rate + 1), range(10)):
+                calls.fresh(number)
+                calls.absorb(reference.ptn(function.rate + position))
+                calls.absorb(bytes(range(255, 255 - size, -1)))
+                calls.dump()
+        self.assertEqual(calls.answers["A", 0], sum(2 * 10 * (function.rate + 1) for function in SPONGE.values()), "the test itself is wrong")
         self.hold(calls)
 
     def test_limits(self):
