@@ -23,7 +23,7 @@ pub(crate) fn xor_byte(lanes: &mut [u64; 25], at: usize, b: u8)
 }
 
 // Four bytes from index i on as a number, the least significant first.
-fn half_at(s: &[u8], i: usize) -> u64
+fn half_word_at(s: &[u8], i: usize) -> u64
     requires { ⌜ i + 4 ≤ length (now s) ⌝ }
     ensures { λ r. ⌜ (r ≡ word (take 4 (drop i (now (s .entry))))) × (r < 2 ^ 32) ⌝ }
 {
@@ -35,11 +35,11 @@ fn word_at(s: &[u8], i: usize) -> u64
     requires { ⌜ i + 8 ≤ length (now s) ⌝ }
     ensures { λ r. ⌜ r ≡ word (take 8 (drop i (now (s .entry)))) ⌝ }
 {
-    half_at(s, i) + half_at(s, i + 4) * 0x1_0000_0000
+    half_word_at(s, i) + half_word_at(s, i + 4) * 0x1_0000_0000
 }
 
 // The same of all bytes from index i on, fewer than four: a case for each count costs less than a loop.
-fn word_of_few(s: &[u8], i: usize) -> u64
+fn word_from(s: &[u8], i: usize) -> u64
     requires { ⌜ (i ≤ length (now s)) × (length (now s) < i + 4) ⌝ }
     ensures { λ r. ⌜ (r ≡ word (drop i (now (s .entry)))) × (r < 2 ^ 24) ⌝ }
 {
@@ -62,10 +62,10 @@ fn word_of(s: &[u8]) -> u64
     ensures { λ r. ⌜ r ≡ word (now (s .entry)) ⌝ }
 {
     if s.len() < 4 {
-        return word_of_few(s, 0);
+        return word_from(s, 0);
     }
     if s.len() < 8 {
-        return half_at(s, 0) + word_of_few(s, 4) * 0x1_0000_0000;
+        return half_word_at(s, 0) + word_from(s, 4) * 0x1_0000_0000;
     }
     word_at(s, 0)
 }
@@ -84,7 +84,7 @@ pub(crate) fn xor_bytes(lanes: &mut [u64; 25], at: usize, s: &[u8])
     }
 }
 
-// The same from the start of lane `first` on: whole lanes, and what is left of the bytes.
+// Bytes XORed into the state from the start of lane `first` on: whole lanes, and what is left.
 fn xor_words(lanes: &mut [u64; 25], first: usize, s: &[u8])
     requires { ⌜ 8 * first + length (now s) ≤ 200 ⌝ }
     ensures { λ _. ⌜ now (lanes .exit) ≡ puts xorByte (now (lanes .entry)) (8 * first) (now (s .entry)) ⌝ }

@@ -97,6 +97,28 @@ fn absorb_blocks(
     p
 }
 
+// The same: a piece of up to eight bytes that leaves room in its block touches one lane or two, and permutes nothing. The loop is called from two
+// places, since from one the compiler would put it in here, and a short piece would save registers for it.
+fn absorb_piece(
+    lanes: &mut [u64; 25],
+    position: usize,
+    rate: usize,
+    rounds: usize,
+    piece: &[u8],
+) -> usize
+    requires { ⌜ (position ≤ rate) × (0 < rate) × (rate ≤ 200) ⌝ }
+    ensures { λ r. ⌜ record { value = now (lanes .exit); position = r } ≡ absorbBytes (lastRounds rounds) rate (record { value = now (lanes .entry); position = position }) (now (piece .entry)) ⌝ }
+{
+    if 8 < piece.len() {
+        return absorb_blocks(lanes, position, rate, rounds, piece);
+    }
+    if rate - position <= piece.len() {
+        return absorb_blocks(lanes, position, rate, rounds, piece);
+    }
+    block::xor_bytes(lanes, position, piece);
+    position + piece.len()
+}
+
 // Squeezes into a lent output a block at a time, and answers the position after it.
 fn squeeze_blocks(
     lanes: &mut [u64; 25],
@@ -146,18 +168,7 @@ pub fn absorb(
     if refusal != status::DONE {
         return refused(refusal, position);
     }
-    // A short piece that leaves room in the block in hand touches one lane or two, and no block is permuted.
-    if piece.len() < rate - position {
-        if piece.len() <= 8 {
-            let next = position + piece.len();
-            block::xor_bytes(lanes, position, piece);
-            return Answer {
-                status: status::DONE,
-                position: next,
-            };
-        }
-    }
-    let after = absorb_blocks(lanes, position, rate, rounds, piece);
+    let after = absorb_piece(lanes, position, rate, rounds, piece);
     Answer {
         status: status::DONE,
         position: after,

@@ -1,11 +1,8 @@
 use mathlib.Core.Path.{_≡_, ap, sym, _∙_}
-use native.Mathlib.Omega.{arith}
 use borrow.Author.Needs.{needs}
-use Rattle.keccak.specs.Permutation.{lastRounds}
 use Rattle.sponge.specs.Model.{Sponge, callStatus, Outcome}
 use Rattle.sponge.specs.declared.Answer.{Answer}
 use Rattle.sponge.proofs.Valid.{taken-fits, absorb-refused, absorb-done}
-use Rattle.sponge.proofs.Blocks.{absorb-in}
 use Rattle.sponge.proofs.absorb.Statement.{statement}
 use Rattle.sponge.proofs.absorb.Tie as tie
 
@@ -27,33 +24,14 @@ returns c =
     let o = ap {B = Outcome} (λ (x : Answer). record { status = x .status; state = record { value = a .lanes .now; position = x .position } }) (c .refused .ensures) in
     o ∙ (absorb-refused (a .rounds) (a .rate) s (s5 .result) (c .before .if1 .taken) (s5 .ensures) (a .piece .now))
 
-sub-if2 : tie.Need-sub-if2
-sub-if2 c = let f = taken-fits _ _ _ (was c) in omega arith
-
-add-next : tie.Need-add-next
-add-next c = search needs
-
-xor-bytes-requires : tie.Need-xor-bytes-requires
-xor-bytes-requires c κs = let f = taken-fits _ _ _ (was (c .before .before .before)) in (omega arith, omega arith, omega arith)
+absorb-piece-requires : tie.Need-absorb-piece-requires
+absorb-piece-requires c κs = taken-fits _ _ _ (was (c .before))
 
 returns-2 : tie.Need-returns-2
 returns-2 c =
-    let a = c .before .before .before .before .before .before .before .args in
-    let s : Sponge = record { value = a .lanes .now; position = a .position } in
-    let w = was (c .before .before .before .before) in
-    let f = taken-fits _ _ _ w in
-    ap (λ (t : Sponge). record { status = 0; state = t })
-    (absorb-in (lastRounds (a .rounds)) (a .rate) (a .lanes .now) _ (a .position) _ (a .piece .now) (c .xor-bytes .ensures) (omega arith) (omega arith))
-    ∙ sym (absorb-done (a .rounds) (a .rate) s w (a .piece .now))
-
-absorb-blocks-requires : tie.Need-absorb-blocks-requires
-absorb-blocks-requires c κs = taken-fits _ _ _ (was (c .before .before))
-
-returns-3 : tie.Need-returns-3
-returns-3 c =
-    let a = c .before .before .before .before .before .before .args in
-    ap (λ (t : Sponge). record { status = 0; state = t }) (c .absorb-blocks .ensures)
-    ∙ sym (absorb-done (a .rounds) (a .rate) (record { value = a .lanes .now; position = a .position }) (was (c .before .before .before)) (a .piece .now))
+    let a = c .before .before .before .before .before .args in
+    ap (λ (t : Sponge). record { status = 0; state = t }) (c .absorb-piece .ensures)
+    ∙ sym (absorb-done (a .rounds) (a .rate) (record { value = a .lanes .now; position = a .position }) (was (c .before .before)) (a .piece .now))
 
 pub absorb-spec : {M : Type 1} → statement M
-absorb-spec = tie.close (tie.spec call-status-requires refused-requires returns sub-if2 add-next xor-bytes-requires returns-2 absorb-blocks-requires returns-3)
+absorb-spec = tie.close (tie.spec call-status-requires refused-requires returns absorb-piece-requires returns-2)

@@ -4,14 +4,14 @@ use borrow.Author.Needs.{needs}
 use Rattle.sponge.proofs.block.word_at.Statement.{statement}
 use Rattle.sponge.proofs.block.word_at.Tie as tie
 
-half-at-requires : tie.Need-half-at-requires
-half-at-requires c κs = search needs
+half-word-at-requires : tie.Need-half-word-at-requires
+half-word-at-requires c κs = search needs
 
-add-half-at : tie.Need-add-half-at
-add-half-at c = search needs
+add-half-word-at : tie.Need-add-half-word-at
+add-half-word-at c = search needs
 
-half-at-requires-2 : tie.Need-half-at-requires-2
-half-at-requires-2 c κs = search needs
+half-word-at-requires-2 : tie.Need-half-word-at-requires-2
+half-word-at-requires-2 c κs = search needs
 
 mul-result : tie.Need-mul-result
 mul-result c = search needs
@@ -27,4 +27,4 @@ returns c =
 pub word-at-spec : {M : Type 1} → statement M
 word-at-spec =
     tie.close
-    (tie.spec half-at-requires add-half-at half-at-requires-2 mul-result add-result returns)
+    (tie.spec half-word-at-requires add-half-word-at half-word-at-requires-2 mul-result add-result returns)

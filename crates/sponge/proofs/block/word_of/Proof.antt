@@ -7,17 +7,17 @@ use borrow.Author.Needs.{needs}
 use Rattle.sponge.proofs.block.word_of.Statement.{statement}
 use Rattle.sponge.proofs.block.word_of.Tie as tie
 
-word-of-few-requires : tie.Need-word-of-few-requires
-word-of-few-requires c κs = search needs
+word-from-requires : tie.Need-word-from-requires
+word-from-requires c κs = search needs
 
 returns : tie.Need-returns
 returns c = search needs
 
-half-at-requires : tie.Need-half-at-requires
-half-at-requires c κs = search needs
+half-word-at-requires : tie.Need-half-word-at-requires
+half-word-at-requires c κs = search needs
 
-word-of-few-requires-2 : tie.Need-word-of-few-requires-2
-word-of-few-requires-2 c κs = search needs
+word-from-requires-2 : tie.Need-word-from-requires-2
+word-from-requires-2 c κs = search needs
 
 mul-result : tie.Need-mul-result
 mul-result c = search needs
@@ -42,10 +42,10 @@ pub word-of-spec : {M : Type 1} → statement M
 word-of-spec =
     tie.close
     (tie.spec
-    word-of-few-requires
+    word-from-requires
     returns
-    half-at-requires
-    word-of-few-requires-2
+    half-word-at-requires
+    word-from-requires-2
     mul-result
     add-result
     returns-2

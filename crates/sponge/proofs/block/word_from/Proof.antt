@@ -1,8 +1,8 @@
 use native.Mathlib.Omega.{arith}
 use Rattle.sponge.proofs.Words.{digitsAt, rest-sum, first-digit}
 use borrow.Author.Needs.{needs}
-use Rattle.sponge.proofs.block.word_of_few.Statement.{statement}
-use Rattle.sponge.proofs.block.word_of_few.Tie as tie
+use Rattle.sponge.proofs.block.word_from.Statement.{statement}
+use Rattle.sponge.proofs.block.word_from.Tie as tie
 
 sub-n : tie.Need-sub-n
 sub-n c = search needs
@@ -94,8 +94,8 @@ returns-4 c =
     let a = c .before .before .before .before .before .before .before .before .before .before .args in
     (omega (arith, rest-sum 3 (a .s .now) (a .i) (omega arith), first-digit (a .s .now) (a .i)), omega arith)
 
-pub word-of-few-spec : {M : Type 1} → statement M
-word-of-few-spec =
+pub word-from-spec : {M : Type 1} → statement M
+word-from-spec =
     tie.close
     (tie.spec
     sub-n

@@ -1,8 +1,8 @@
 use native.Mathlib.Omega.{arith}
 use Rattle.sponge.proofs.Words.{digitsAt, word-sum, first-digit}
 use borrow.Author.Needs.{needs}
-use Rattle.sponge.proofs.block.half_at.Statement.{statement}
-use Rattle.sponge.proofs.block.half_at.Tie as tie
+use Rattle.sponge.proofs.block.half_word_at.Statement.{statement}
+use Rattle.sponge.proofs.block.half_word_at.Tie as tie
 
 shared-slice-read-wide : tie.Need-shared-slice-read-wide
 shared-slice-read-wide c = search needs
@@ -61,8 +61,8 @@ returns c =
     let a = c .before .before .before .before .before .before .before .before .before .args in
     (omega (arith, word-sum 4 (a .s .now) (a .i) (omega arith), first-digit (a .s .now) (a .i)), omega arith)
 
-pub half-at-spec : {M : Type 1} → statement M
-half-at-spec =
+pub half-word-at-spec : {M : Type 1} → statement M
+half-word-at-spec =
     tie.close
     (tie.spec
     shared-slice-read-wide
