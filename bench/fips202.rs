@@ -4,7 +4,7 @@
 //!   fips202 VERSION SHA3-256|SHAKE128 WAY N  the first N bytes of 1 MiB by one of them, for an instruction count
 //!
 //! The versions: rattle, before, rust, and openssl where it was linked. The ways: STEP, absorbed in pieces of so many bytes; STEP-in-place,
-//! the same by calls on lent lanes; one, hashed in one go; 32 bytes of output.
+//! the same by calls on lent lanes, which the proved versions alone have; one, hashed in one go; 32 bytes of output.
 mod constants;
 mod hashing;
 mod lanes;

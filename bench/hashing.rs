@@ -60,7 +60,7 @@ impl Hash {
         // The callees read the message, write the output, and keep neither.
         let status = match (self, way) {
             (Hash::Proved(f), Way::Pieces(step)) => unsafe { (f.pieces)(input, size, step, output, out.len()) },
-            (Hash::Proved(f), Way::InPlace(step)) => unsafe { f.in_place.unwrap()(input, size, step, output, out.len()) },
+            (Hash::Proved(f), Way::InPlace(step)) => unsafe { f.in_place.expect("it has no calls on lent lanes")(input, size, step, output, out.len()) },
             (Hash::Proved(f), Way::OneGo) => unsafe { (f.one_go)(input, size, output, out.len()) },
             (Hash::Rust(f), Way::Pieces(step) | Way::InPlace(step)) => return f(message, Some(step), out),
             (Hash::Rust(f), Way::OneGo) => return f(message, None, out),

@@ -3,7 +3,7 @@
 //!   turboshake compare                      64 MiB by each and in each way, alternating: best, median and ratio
 //!   turboshake VERSION TurboSHAKE128 WAY N  the first N bytes of 1 MiB by one of them, for an instruction count
 //!
-//! The versions: rattle, before, rust. The ways: STEP, absorbed in pieces of so many bytes; STEP-in-place, the same by calls on lent lanes;
+//! The versions: rattle, before, rust. The ways: STEP, absorbed in pieces of so many bytes; STEP-in-place, the same by calls on lent lanes, which the proved versions alone have;
 //! one, hashed in one go; 32 bytes of output.
 mod constants;
 mod hashing;

@@ -169,18 +169,21 @@ def day_output():
 def types_output():
     """A line for each function that is the sponge: its name, the statuses of the calls on a run of ptn(200) and of two calls in one go, and bytes.
 
-    The run gets two pieces and the close, gives `size` bytes in two reads and one byte more, and is fed after the close. In one go `size` bytes are
-    asked, and one more. SHA3's digest has a length; of the others 32 bytes are asked at the rate 168 and 64 at the rate 136. TurboSHAKE's D is 1F.
-    Then a line for each of the same run on lent lanes, which is the same run.
+    The run gets a piece, is read too early, gets the other piece and the close, gives 10 bytes, is fed too late, and gives the rest of `size` bytes and
+    one byte more. In one go `size` bytes are asked, and one more. SHA3's digest has a length; of the others 32 bytes are asked at the rate 168 and 64 at
+    the rate 136. TurboSHAKE's D is 1F. Then for each the line of that run on lent lanes, which answers alike; it has no call in one go.
     """
     message, lines, in_place = reference.ptn(200), [], []
     for number, function in SPONGE.items():
         domain = 0x1F if number in TURBOSHAKE else None
         size = function.digest or transcript.CHAINING[function.rate]
         run = transcript.book_of(number)
-        statuses = [run.absorb(message[:67]), run.absorb(message[67:]), run.finalize(domain)]
-        reads = [(run.squeeze(asked), asked) for asked in (10, size - 10, 1)]
-        statuses += [status for (status, _), _ in reads] + [run.absorb(message[67:])]
+        statuses = [run.absorb(message[:67]), run.squeeze(1)[0], run.absorb(message[67:]), run.finalize(domain)]
+        reads = [(run.squeeze(10), 10)]
+        late = run.absorb(message[67:])
+        reads += [(run.squeeze(asked), asked) for asked in (size - 10, 1)]
+        (given, _), *more = (answer for answer, _ in reads)
+        statuses += [given, late, *(status for status, _ in more)]
         in_place.append(f"{function.name} in place {''.join(map(str, statuses))} {bytes_of(reads)}")
         reads += [(one_go.sponge(function, message, domain, asked), asked) for asked in (size, size + 1)]
         statuses += [status for (status, _), _ in reads[3:]]

@@ -66,11 +66,11 @@ class Output(unittest.TestCase):
     def test_types(self):
         """A line for each function, and one of the same run on lent lanes. The read and the call in one go past SHA3's digest answer 6 and leave A5; the
         bytes of FIPS 202 are hashlib's."""
-        told = [line.split(" ") for line in expected.types_output().splitlines()]
-        lines, in_place = told[: len(SPONGE)], told[len(SPONGE) :]
+        rows = [line.split(" ") for line in expected.types_output().splitlines()]
+        lines, in_place = rows[: len(SPONGE)], rows[len(SPONGE) :]
         self.assertEqual([name for name, *_ in lines], [function.name for function in SPONGE.values()])
-        self.assertEqual(in_place, [[name, "in", "place", statuses[:7], run, more] for name, statuses, run, more, *_ in lines])
-        self.assertEqual([statuses for _, statuses, *_ in lines], 2 * ["000000300"] + 4 * ["000006306"] + 2 * ["000000300"])
+        self.assertEqual(in_place, [[name, "in", "place", statuses[:8], run, more] for name, statuses, run, more, *_ in lines])
+        self.assertEqual([statuses for _, statuses, *_ in lines], 2 * ["0300030000"] + 4 * ["0300030606"] + 2 * ["0300030000"])
         sizes = [32, 64, 28, 32, 48, 64, 32, 64]
         for (name, statuses, run, more, one, long), size in zip(lines, sizes):
             self.assertEqual((run, len(bytes.fromhex(run))), (one, size), name)

@@ -58,12 +58,13 @@ class Lists(Held):
         self.hold(calls)
 
     def test_short_pieces(self):
-        """Pieces of up to nine bytes at every position of the second block, whose lanes the first one's permutation has filled."""
+        """Pieces of up to nine bytes into a fresh run, and at every position of the second block, whose lanes the first one's permutation has filled."""
         calls = Calls()
         for number, function in SPONGE.items():
-            for position, size in itertools.product(range(function.rate + 1), range(10)):
+            befores = (0, *range(function.rate + 1, 2 * function.rate + 1))
+            for before, size in itertools.product(befores, range(10)):
                 calls.fresh(number)
-                calls.absorb(reference.ptn(function.rate + position))
+                calls.absorb(reference.ptn(before))
                 calls.absorb(bytes(range(255, 255 - size, -1)))
                 calls.dump()
         self.assertEqual(calls.answers["A", 0], sum(2 * 10 * (function.rate + 1) for function in SPONGE.values()), "the test itself is wrong")

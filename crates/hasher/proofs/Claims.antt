@@ -6,13 +6,12 @@ use Prim.Native.Nat.{ℕ, suc, _+_, _-_, _≤_}
 use native.Mathlib.Omega.{arith}
 use lib.ListN.{length, take, length-append}
 use lib.Seq.{take-append-seam}
-use Rattle.sponge.specs.Status.{unreachable}
 use Rattle.sponge.specs.Model.{Sponge}
 use Rattle.sponge.specs.Transcript.{Call, Call.absorb, Call.squeeze, Transcript, Reply, lent}
 use Rattle.sponge.specs.Runs as runs
 use Rattle.sponge.specs.Runs.{freshRun, perform, runOf}
 use Rattle.sponge.specs.Streaming as streaming
-use Rattle.sponge.specs.Streaming.{History, history, joined}
+use Rattle.sponge.specs.Streaming.{History, joined}
 use Rattle.sponge.proofs.Corollaries.{history-held}
 use Rattle.sponge.proofs.Reachable as generic
 use Rattle.sponge.proofs.Done as done

@@ -55,7 +55,7 @@ module _ {A : Type 0} (F : Function A) where
     -- a refused call hands the run back, and leaves the lent output as it was
     pub refused : (r : Run) (c : Call A) (n : ℕ) → answer F r c .status ≡ suc n → answer F r c .run ≡ r
     pub refused-output : (r : Run) (out : List ℕ) (n : ℕ) → answer F r (squeeze (length out)) .status ≡ suc n → written F r out ≡ out
-    -- and whatever meets the contract of a call on lent lanes leaves them, and what was given beside them, as they were
+    -- a refused call on lent lanes, which answers m and leaves the lanes `left`, leaves them and what was given beside them as they were
     pub refused-lent : (lanes : List ℕ) (at : Progress) (c : Call A) (m : Moved) (left : List ℕ) (n : ℕ) → answered m left ≡ answer F (runWith lanes at) c → m .status ≡ suc n
         → (left ≡ lanes) × (m .at ≡ at)
     -- a done squeeze leaves in the lent output the bytes that the list theorem speaks of

@@ -12,7 +12,7 @@ use Rattle.sponge.specs.Model.{Sponge, fresh, absorbBytes, pad, squeezeBytes, a
 use Rattle.sponge.specs.Status.{done, inputTooLong, outputTooLong, badLength, firstOf}
 use Rattle.sponge.specs.Transcript.{Call, Call.absorb, Call.customize, Call.finalize, Call.finish, Call.squeeze, Reply, lent}
 use Rattle.sponge.specs.Runs as runs
-use Rattle.sponge.specs.Runs.{Machine, freshRun, perform}
+use Rattle.sponge.specs.Runs.{Machine, perform}
 use Rattle.hasher.specs.Function.{messageLimit, Function, permutation, rules}
 use Rattle.hasher.specs.declared.Run.{Run}
 use Rattle.hasher.specs.declared.Progress.{Progress}
@@ -117,6 +117,7 @@ progressOf r = record { position = r .position; phase = r .phase; absorbed = r .
 abbrev pub runWith : List ℕ → Progress → Run
 runWith lanes at = record { lanes = lanes; position = at .position; phase = at .phase; absorbed = at .absorbed; squeezed = at .squeezed }
 
+-- the answer of a call on lent lanes: what it answers, and the lanes that it leaves
 abbrev pub answered : Moved → List ℕ → Answer
 answered m lanes = record { run = runWith lanes (m .at); status = m .status }
 

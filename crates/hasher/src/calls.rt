@@ -1,6 +1,6 @@
 // The calls on a run, and in one go, over the rate, the rounds and the most bytes of output.
 ghost use mathlib.Core.Path.{_≡_};
-ghost use Prim.Native.Nat.{ℕ, _<_, _≤_};
+ghost use Prim.Native.Nat.{_<_, _≤_};
 ghost use lib.ListN.{length};
 ghost use Rattle.sponge.specs.Waiting.{positionAfter};
 ghost use Rattle.sponge.specs.Transcript.{Call};

@@ -1,4 +1,4 @@
-// The calls on a run whose lanes are lent: nothing is copied. A run by value is one of these calls on a copy of its lanes.
+// The calls on a run whose lanes are lent: no lane is copied. A call by value is one of these on a copy of the lanes.
 ghost use mathlib.Core.Path.{_≡_};
 ghost use lib.ListN.{length};
 ghost use Rattle.sponge.specs.Transcript.{Call};

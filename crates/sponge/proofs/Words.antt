@@ -166,7 +166,7 @@ two-lanes l q j h w s hb a g m e =
     let sum : w ≡ word (drop h s) * 2 ^ (8 * h) + word (take h s) = omega (arith, word-parts s h g) in
     let next : 8 * (q + 1) + 0 ≡ 8 * q + j + h = omega arith in
     ap (λ (x : ℕ). xorLane (xorLane l q x) (q + 1) (w / 2 ^ (8 * h))) (shl-low w (8 * h) (8 * j) 64 (word (drop h s)) small sum (omega arith))
-    ∙ ap (λ (m : List ℕ). xorLane m (q + 1) (w / 2 ^ (8 * h))) (sym (lane-bytes (take h s) l q j (part-bytes s 0 h hb) (omega arith)))
+    ∙ ap (λ (t : List ℕ). xorLane t (q + 1) (w / 2 ^ (8 * h))) (sym (lane-bytes (take h s) l q j (part-bytes s 0 h hb) (omega arith)))
     ∙ ap (xorLane (puts xorByte l (8 * q + j) (take h s)) (q + 1)) (ap (λ (x : ℕ). x / 2 ^ (8 * h)) sum ∙ high (word (drop h s)) (8 * h) small ∙ sym (mul-one (word (drop h s))))
     ∙ sym (lane-bytes (drop h s) (puts xorByte l (8 * q + j) (take h s)) (q + 1) 0 (λ k. rw (getD-drop h s k 0) (hb (h + k))) (omega (arith, length-drop h s)))
     ∙ ap (λ (p : ℕ). puts xorByte (puts xorByte l (8 * q + j) (take h s)) p (drop h s)) next

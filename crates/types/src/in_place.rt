@@ -18,20 +18,23 @@ fn turboshake128(a: &[u8], b: &[u8], x: &mut [u8], y: &mut [u8], z: &mut [u8]) -
     let run = TurboShake128::fresh().run;
     let mut lanes = run.lanes;
     let first = TurboShake128::absorb_in_place(&mut lanes, hasher::progress_of(run), a);
-    let second = TurboShake128::absorb_in_place(&mut lanes, first.at, b);
+    let mut byte = [BEFORE; 1];
+    let early = TurboShake128::squeeze_in_place(&mut lanes, first.at, &mut byte);
+    let second = TurboShake128::absorb_in_place(&mut lanes, early.at, b);
     let closed = TurboShake128::finalize_in_place(&mut lanes, second.at, DOMAIN);
     let given = TurboShake128::squeeze_in_place(&mut lanes, closed.at, x);
-    let rest = TurboShake128::squeeze_in_place(&mut lanes, given.at, y);
+    let late = TurboShake128::absorb_in_place(&mut lanes, given.at, b);
+    let rest = TurboShake128::squeeze_in_place(&mut lanes, late.at, y);
     let more = TurboShake128::squeeze_in_place(&mut lanes, rest.at, z);
-    let late = TurboShake128::absorb_in_place(&mut lanes, more.at, b);
     Statuses {
         first: first.status,
+        early: early.status,
         second: second.status,
         closed: closed.status,
         given: given.status,
+        late: late.status,
         rest: rest.status,
         more: more.status,
-        late: late.status,
     }
 }
 
@@ -39,20 +42,23 @@ fn turboshake256(a: &[u8], b: &[u8], x: &mut [u8], y: &mut [u8], z: &mut [u8]) -
     let run = TurboShake256::fresh().run;
     let mut lanes = run.lanes;
     let first = TurboShake256::absorb_in_place(&mut lanes, hasher::progress_of(run), a);
-    let second = TurboShake256::absorb_in_place(&mut lanes, first.at, b);
+    let mut byte = [BEFORE; 1];
+    let early = TurboShake256::squeeze_in_place(&mut lanes, first.at, &mut byte);
+    let second = TurboShake256::absorb_in_place(&mut lanes, early.at, b);
     let closed = TurboShake256::finalize_in_place(&mut lanes, second.at, DOMAIN);
     let given = TurboShake256::squeeze_in_place(&mut lanes, closed.at, x);
-    let rest = TurboShake256::squeeze_in_place(&mut lanes, given.at, y);
+    let late = TurboShake256::absorb_in_place(&mut lanes, given.at, b);
+    let rest = TurboShake256::squeeze_in_place(&mut lanes, late.at, y);
     let more = TurboShake256::squeeze_in_place(&mut lanes, rest.at, z);
-    let late = TurboShake256::absorb_in_place(&mut lanes, more.at, b);
     Statuses {
         first: first.status,
+        early: early.status,
         second: second.status,
         closed: closed.status,
         given: given.status,
+        late: late.status,
         rest: rest.status,
         more: more.status,
-        late: late.status,
     }
 }
 
@@ -60,20 +66,23 @@ fn sha3_224(a: &[u8], b: &[u8], x: &mut [u8], y: &mut [u8], z: &mut [u8]) -> Sta
     let run = Sha3_224::fresh().run;
     let mut lanes = run.lanes;
     let first = Sha3_224::absorb_in_place(&mut lanes, hasher::progress_of(run), a);
-    let second = Sha3_224::absorb_in_place(&mut lanes, first.at, b);
+    let mut byte = [BEFORE; 1];
+    let early = Sha3_224::squeeze_in_place(&mut lanes, first.at, &mut byte);
+    let second = Sha3_224::absorb_in_place(&mut lanes, early.at, b);
     let closed = Sha3_224::finalize_in_place(&mut lanes, second.at);
     let given = Sha3_224::squeeze_in_place(&mut lanes, closed.at, x);
-    let rest = Sha3_224::squeeze_in_place(&mut lanes, given.at, y);
+    let late = Sha3_224::absorb_in_place(&mut lanes, given.at, b);
+    let rest = Sha3_224::squeeze_in_place(&mut lanes, late.at, y);
     let more = Sha3_224::squeeze_in_place(&mut lanes, rest.at, z);
-    let late = Sha3_224::absorb_in_place(&mut lanes, more.at, b);
     Statuses {
         first: first.status,
+        early: early.status,
         second: second.status,
         closed: closed.status,
         given: given.status,
+        late: late.status,
         rest: rest.status,
         more: more.status,
-        late: late.status,
     }
 }
 
@@ -81,20 +90,23 @@ fn sha3_256(a: &[u8], b: &[u8], x: &mut [u8], y: &mut [u8], z: &mut [u8]) -> Sta
     let run = Sha3_256::fresh().run;
     let mut lanes = run.lanes;
     let first = Sha3_256::absorb_in_place(&mut lanes, hasher::progress_of(run), a);
-    let second = Sha3_256::absorb_in_place(&mut lanes, first.at, b);
+    let mut byte = [BEFORE; 1];
+    let early = Sha3_256::squeeze_in_place(&mut lanes, first.at, &mut byte);
+    let second = Sha3_256::absorb_in_place(&mut lanes, early.at, b);
     let closed = Sha3_256::finalize_in_place(&mut lanes, second.at);
     let given = Sha3_256::squeeze_in_place(&mut lanes, closed.at, x);
-    let rest = Sha3_256::squeeze_in_place(&mut lanes, given.at, y);
+    let late = Sha3_256::absorb_in_place(&mut lanes, given.at, b);
+    let rest = Sha3_256::squeeze_in_place(&mut lanes, late.at, y);
     let more = Sha3_256::squeeze_in_place(&mut lanes, rest.at, z);
-    let late = Sha3_256::absorb_in_place(&mut lanes, more.at, b);
     Statuses {
         first: first.status,
+        early: early.status,
         second: second.status,
         closed: closed.status,
         given: given.status,
+        late: late.status,
         rest: rest.status,
         more: more.status,
-        late: late.status,
     }
 }
 
@@ -102,20 +114,23 @@ fn sha3_384(a: &[u8], b: &[u8], x: &mut [u8], y: &mut [u8], z: &mut [u8]) -> Sta
     let run = Sha3_384::fresh().run;
     let mut lanes = run.lanes;
     let first = Sha3_384::absorb_in_place(&mut lanes, hasher::progress_of(run), a);
-    let second = Sha3_384::absorb_in_place(&mut lanes, first.at, b);
+    let mut byte = [BEFORE; 1];
+    let early = Sha3_384::squeeze_in_place(&mut lanes, first.at, &mut byte);
+    let second = Sha3_384::absorb_in_place(&mut lanes, early.at, b);
     let closed = Sha3_384::finalize_in_place(&mut lanes, second.at);
     let given = Sha3_384::squeeze_in_place(&mut lanes, closed.at, x);
-    let rest = Sha3_384::squeeze_in_place(&mut lanes, given.at, y);
+    let late = Sha3_384::absorb_in_place(&mut lanes, given.at, b);
+    let rest = Sha3_384::squeeze_in_place(&mut lanes, late.at, y);
     let more = Sha3_384::squeeze_in_place(&mut lanes, rest.at, z);
-    let late = Sha3_384::absorb_in_place(&mut lanes, more.at, b);
     Statuses {
         first: first.status,
+        early: early.status,
         second: second.status,
         closed: closed.status,
         given: given.status,
+        late: late.status,
         rest: rest.status,
         more: more.status,
-        late: late.status,
     }
 }
 
@@ -123,20 +138,23 @@ fn sha3_512(a: &[u8], b: &[u8], x: &mut [u8], y: &mut [u8], z: &mut [u8]) -> Sta
     let run = Sha3_512::fresh().run;
     let mut lanes = run.lanes;
     let first = Sha3_512::absorb_in_place(&mut lanes, hasher::progress_of(run), a);
-    let second = Sha3_512::absorb_in_place(&mut lanes, first.at, b);
+    let mut byte = [BEFORE; 1];
+    let early = Sha3_512::squeeze_in_place(&mut lanes, first.at, &mut byte);
+    let second = Sha3_512::absorb_in_place(&mut lanes, early.at, b);
     let closed = Sha3_512::finalize_in_place(&mut lanes, second.at);
     let given = Sha3_512::squeeze_in_place(&mut lanes, closed.at, x);
-    let rest = Sha3_512::squeeze_in_place(&mut lanes, given.at, y);
+    let late = Sha3_512::absorb_in_place(&mut lanes, given.at, b);
+    let rest = Sha3_512::squeeze_in_place(&mut lanes, late.at, y);
     let more = Sha3_512::squeeze_in_place(&mut lanes, rest.at, z);
-    let late = Sha3_512::absorb_in_place(&mut lanes, more.at, b);
     Statuses {
         first: first.status,
+        early: early.status,
         second: second.status,
         closed: closed.status,
         given: given.status,
+        late: late.status,
         rest: rest.status,
         more: more.status,
-        late: late.status,
     }
 }
 
@@ -144,20 +162,23 @@ fn shake128(a: &[u8], b: &[u8], x: &mut [u8], y: &mut [u8], z: &mut [u8]) -> Sta
     let run = Shake128::fresh().run;
     let mut lanes = run.lanes;
     let first = Shake128::absorb_in_place(&mut lanes, hasher::progress_of(run), a);
-    let second = Shake128::absorb_in_place(&mut lanes, first.at, b);
+    let mut byte = [BEFORE; 1];
+    let early = Shake128::squeeze_in_place(&mut lanes, first.at, &mut byte);
+    let second = Shake128::absorb_in_place(&mut lanes, early.at, b);
     let closed = Shake128::finalize_in_place(&mut lanes, second.at);
     let given = Shake128::squeeze_in_place(&mut lanes, closed.at, x);
-    let rest = Shake128::squeeze_in_place(&mut lanes, given.at, y);
+    let late = Shake128::absorb_in_place(&mut lanes, given.at, b);
+    let rest = Shake128::squeeze_in_place(&mut lanes, late.at, y);
     let more = Shake128::squeeze_in_place(&mut lanes, rest.at, z);
-    let late = Shake128::absorb_in_place(&mut lanes, more.at, b);
     Statuses {
         first: first.status,
+        early: early.status,
         second: second.status,
         closed: closed.status,
         given: given.status,
+        late: late.status,
         rest: rest.status,
         more: more.status,
-        late: late.status,
     }
 }
 
@@ -165,20 +186,23 @@ fn shake256(a: &[u8], b: &[u8], x: &mut [u8], y: &mut [u8], z: &mut [u8]) -> Sta
     let run = Shake256::fresh().run;
     let mut lanes = run.lanes;
     let first = Shake256::absorb_in_place(&mut lanes, hasher::progress_of(run), a);
-    let second = Shake256::absorb_in_place(&mut lanes, first.at, b);
+    let mut byte = [BEFORE; 1];
+    let early = Shake256::squeeze_in_place(&mut lanes, first.at, &mut byte);
+    let second = Shake256::absorb_in_place(&mut lanes, early.at, b);
     let closed = Shake256::finalize_in_place(&mut lanes, second.at);
     let given = Shake256::squeeze_in_place(&mut lanes, closed.at, x);
-    let rest = Shake256::squeeze_in_place(&mut lanes, given.at, y);
+    let late = Shake256::absorb_in_place(&mut lanes, given.at, b);
+    let rest = Shake256::squeeze_in_place(&mut lanes, late.at, y);
     let more = Shake256::squeeze_in_place(&mut lanes, rest.at, z);
-    let late = Shake256::absorb_in_place(&mut lanes, more.at, b);
     Statuses {
         first: first.status,
+        early: early.status,
         second: second.status,
         closed: closed.status,
         given: given.status,
+        late: late.status,
         rest: rest.status,
         more: more.status,
-        late: late.status,
     }
 }
 

@@ -3,15 +3,17 @@ ghost use Prim.Native.Nat.{_≤_};
 ghost use lib.ListN.{length};
 use libc::STDOUT_FILENO;
 
-// The statuses of the calls on a run: two pieces, the close, two reads, a read of one byte more, and a piece after the close.
+// The statuses of the calls on a run: a piece, a read before the close, the other piece, the close, a read, a piece after the close, and two
+// reads more, the last of one byte.
 pub struct Statuses {
     pub first: u8,
+    pub early: u8,
     pub second: u8,
     pub closed: u8,
     pub given: u8,
+    pub late: u8,
     pub rest: u8,
     pub more: u8,
-    pub late: u8,
 }
 
 fn digit(status: u8) -> u8 {
@@ -23,12 +25,13 @@ fn write_statuses(run: Statuses) -> bool {
     let text = [
         b' ',
         digit(run.first),
+        digit(run.early),
         digit(run.second),
         digit(run.closed),
         digit(run.given),
+        digit(run.late),
         digit(run.rest),
         digit(run.more),
-        digit(run.late),
     ];
     io::write_all(STDOUT_FILENO, &text)
 }
@@ -72,7 +75,7 @@ pub fn write_line(
         && write_part(long, b"\n")
 }
 
-// The same of a run on lent lanes.
+// The line of a run on lent lanes: the bytes of its three reads follow the statuses.
 pub fn write_run(name: &[u8], run: Statuses, x: &[u8], y: &[u8], z: &[u8]) -> bool
     requires { ⌜ length (now x) ≤ 65 ⌝ }
     requires { ⌜ length (now y) ≤ 65 ⌝ }

@@ -1,6 +1,7 @@
-// Runs each type's own calls: on a run of 32 or 64 bytes of output, of SHA-3 the digest, and one byte more, and in one go. Writes a line for each function: a digit for the status of each call, the bytes of the run,
-// the byte that follows them, the bytes of the call in one go, and those of one that asks for a byte more. Each buffer held A5 in every byte before.
+// Runs each type's own calls: on a run of 32 or 64 bytes of output, of SHA-3 the digest, and one byte more, with a read before the close and a piece after it, which are refused, and in one go. Writes a line for each
+// function: a digit for the status of each call, the bytes of the run, the byte that follows them, the bytes of the call in one go, and those of one that asks for a byte more. Each buffer held A5 in every byte before.
 // Then a line for each function of the same run on lent lanes.
+mod by_value;
 mod in_place;
 mod line;
 
@@ -12,7 +13,6 @@ use fips202::Sha3_384;
 use fips202::Sha3_512;
 use fips202::Shake128;
 use fips202::Shake256;
-use line::Statuses;
 use turboshake::TurboShake128;
 use turboshake::TurboShake256;
 
@@ -29,206 +29,6 @@ fn fill(message: &mut [u8]) {
     }
 }
 
-fn turboshake128(a: &[u8], b: &[u8], x: &mut [u8], y: &mut [u8], z: &mut [u8]) -> Statuses {
-    let first = TurboShake128::fresh().absorb(a);
-    let begun = first.hasher;
-    let second = begun.absorb(b);
-    let open = second.hasher;
-    let closed = open.finalize(DOMAIN);
-    let full = closed.hasher;
-    let given = full.squeeze(x);
-    let read = given.hasher;
-    let rest = read.squeeze(y);
-    let end = rest.hasher;
-    let more = end.squeeze(z);
-    let past = more.hasher;
-    let late = past.absorb(b);
-    Statuses {
-        first: first.status,
-        second: second.status,
-        closed: closed.status,
-        given: given.status,
-        rest: rest.status,
-        more: more.status,
-        late: late.status,
-    }
-}
-
-fn turboshake256(a: &[u8], b: &[u8], x: &mut [u8], y: &mut [u8], z: &mut [u8]) -> Statuses {
-    let first = TurboShake256::fresh().absorb(a);
-    let begun = first.hasher;
-    let second = begun.absorb(b);
-    let open = second.hasher;
-    let closed = open.finalize(DOMAIN);
-    let full = closed.hasher;
-    let given = full.squeeze(x);
-    let read = given.hasher;
-    let rest = read.squeeze(y);
-    let end = rest.hasher;
-    let more = end.squeeze(z);
-    let past = more.hasher;
-    let late = past.absorb(b);
-    Statuses {
-        first: first.status,
-        second: second.status,
-        closed: closed.status,
-        given: given.status,
-        rest: rest.status,
-        more: more.status,
-        late: late.status,
-    }
-}
-
-fn sha3_224(a: &[u8], b: &[u8], x: &mut [u8], y: &mut [u8], z: &mut [u8]) -> Statuses {
-    let first = Sha3_224::fresh().absorb(a);
-    let begun = first.hasher;
-    let second = begun.absorb(b);
-    let open = second.hasher;
-    let closed = open.finalize();
-    let full = closed.hasher;
-    let given = full.squeeze(x);
-    let read = given.hasher;
-    let rest = read.squeeze(y);
-    let end = rest.hasher;
-    let more = end.squeeze(z);
-    let past = more.hasher;
-    let late = past.absorb(b);
-    Statuses {
-        first: first.status,
-        second: second.status,
-        closed: closed.status,
-        given: given.status,
-        rest: rest.status,
-        more: more.status,
-        late: late.status,
-    }
-}
-
-fn sha3_256(a: &[u8], b: &[u8], x: &mut [u8], y: &mut [u8], z: &mut [u8]) -> Statuses {
-    let first = Sha3_256::fresh().absorb(a);
-    let begun = first.hasher;
-    let second = begun.absorb(b);
-    let open = second.hasher;
-    let closed = open.finalize();
-    let full = closed.hasher;
-    let given = full.squeeze(x);
-    let read = given.hasher;
-    let rest = read.squeeze(y);
-    let end = rest.hasher;
-    let more = end.squeeze(z);
-    let past = more.hasher;
-    let late = past.absorb(b);
-    Statuses {
-        first: first.status,
-        second: second.status,
-        closed: closed.status,
-        given: given.status,
-        rest: rest.status,
-        more: more.status,
-        late: late.status,
-    }
-}
-
-fn sha3_384(a: &[u8], b: &[u8], x: &mut [u8], y: &mut [u8], z: &mut [u8]) -> Statuses {
-    let first = Sha3_384::fresh().absorb(a);
-    let begun = first.hasher;
-    let second = begun.absorb(b);
-    let open = second.hasher;
-    let closed = open.finalize();
-    let full = closed.hasher;
-    let given = full.squeeze(x);
-    let read = given.hasher;
-    let rest = read.squeeze(y);
-    let end = rest.hasher;
-    let more = end.squeeze(z);
-    let past = more.hasher;
-    let late = past.absorb(b);
-    Statuses {
-        first: first.status,
-        second: second.status,
-        closed: closed.status,
-        given: given.status,
-        rest: rest.status,
-        more: more.status,
-        late: late.status,
-    }
-}
-
-fn sha3_512(a: &[u8], b: &[u8], x: &mut [u8], y: &mut [u8], z: &mut [u8]) -> Statuses {
-    let first = Sha3_512::fresh().absorb(a);
-    let begun = first.hasher;
-    let second = begun.absorb(b);
-    let open = second.hasher;
-    let closed = open.finalize();
-    let full = closed.hasher;
-    let given = full.squeeze(x);
-    let read = given.hasher;
-    let rest = read.squeeze(y);
-    let end = rest.hasher;
-    let more = end.squeeze(z);
-    let past = more.hasher;
-    let late = past.absorb(b);
-    Statuses {
-        first: first.status,
-        second: second.status,
-        closed: closed.status,
-        given: given.status,
-        rest: rest.status,
-        more: more.status,
-        late: late.status,
-    }
-}
-
-fn shake128(a: &[u8], b: &[u8], x: &mut [u8], y: &mut [u8], z: &mut [u8]) -> Statuses {
-    let first = Shake128::fresh().absorb(a);
-    let begun = first.hasher;
-    let second = begun.absorb(b);
-    let open = second.hasher;
-    let closed = open.finalize();
-    let full = closed.hasher;
-    let given = full.squeeze(x);
-    let read = given.hasher;
-    let rest = read.squeeze(y);
-    let end = rest.hasher;
-    let more = end.squeeze(z);
-    let past = more.hasher;
-    let late = past.absorb(b);
-    Statuses {
-        first: first.status,
-        second: second.status,
-        closed: closed.status,
-        given: given.status,
-        rest: rest.status,
-        more: more.status,
-        late: late.status,
-    }
-}
-
-fn shake256(a: &[u8], b: &[u8], x: &mut [u8], y: &mut [u8], z: &mut [u8]) -> Statuses {
-    let first = Shake256::fresh().absorb(a);
-    let begun = first.hasher;
-    let second = begun.absorb(b);
-    let open = second.hasher;
-    let closed = open.finalize();
-    let full = closed.hasher;
-    let given = full.squeeze(x);
-    let read = given.hasher;
-    let rest = read.squeeze(y);
-    let end = rest.hasher;
-    let more = end.squeeze(z);
-    let past = more.hasher;
-    let late = past.absorb(b);
-    Statuses {
-        first: first.status,
-        second: second.status,
-        closed: closed.status,
-        given: given.status,
-        rest: rest.status,
-        more: more.status,
-        late: late.status,
-    }
-}
-
 fn write_turboshake128(message: &[u8]) -> bool
     requires { ⌜ 67 ≤ length (now message) ⌝ }
 {
@@ -237,7 +37,7 @@ fn write_turboshake128(message: &[u8]) -> bool
     let mut z = [BEFORE; 1];
     let mut one = [BEFORE; 32];
     let mut long = [BEFORE; 33];
-    let run = turboshake128(&message[0..67], &message[67..], &mut x, &mut y, &mut z);
+    let run = by_value::turboshake128(&message[0..67], &message[67..], &mut x, &mut y, &mut z);
     let hashed = TurboShake128::hash(message, DOMAIN, &mut one);
     let longer = TurboShake128::hash(message, DOMAIN, &mut long);
     line::write_line(
@@ -261,7 +61,7 @@ fn write_turboshake256(message: &[u8]) -> bool
     let mut z = [BEFORE; 1];
     let mut one = [BEFORE; 64];
     let mut long = [BEFORE; 65];
-    let run = turboshake256(&message[0..67], &message[67..], &mut x, &mut y, &mut z);
+    let run = by_value::turboshake256(&message[0..67], &message[67..], &mut x, &mut y, &mut z);
     let hashed = TurboShake256::hash(message, DOMAIN, &mut one);
     let longer = TurboShake256::hash(message, DOMAIN, &mut long);
     line::write_line(
@@ -285,7 +85,7 @@ fn write_sha3_224(message: &[u8]) -> bool
     let mut z = [BEFORE; 1];
     let mut one = [BEFORE; 28];
     let mut long = [BEFORE; 29];
-    let run = sha3_224(&message[0..67], &message[67..], &mut x, &mut y, &mut z);
+    let run = by_value::sha3_224(&message[0..67], &message[67..], &mut x, &mut y, &mut z);
     let hashed = Sha3_224::hash(message, &mut one);
     let longer = Sha3_224::hash(message, &mut long);
     line::write_line(b"SHA3-224", run, hashed, longer, &x, &y, &z, &one, &long)
@@ -299,7 +99,7 @@ fn write_sha3_256(message: &[u8]) -> bool
     let mut z = [BEFORE; 1];
     let mut one = [BEFORE; 32];
     let mut long = [BEFORE; 33];
-    let run = sha3_256(&message[0..67], &message[67..], &mut x, &mut y, &mut z);
+    let run = by_value::sha3_256(&message[0..67], &message[67..], &mut x, &mut y, &mut z);
     let hashed = Sha3_256::hash(message, &mut one);
     let longer = Sha3_256::hash(message, &mut long);
     line::write_line(b"SHA3-256", run, hashed, longer, &x, &y, &z, &one, &long)
@@ -313,7 +113,7 @@ fn write_sha3_384(message: &[u8]) -> bool
     let mut z = [BEFORE; 1];
     let mut one = [BEFORE; 48];
     let mut long = [BEFORE; 49];
-    let run = sha3_384(&message[0..67], &message[67..], &mut x, &mut y, &mut z);
+    let run = by_value::sha3_384(&message[0..67], &message[67..], &mut x, &mut y, &mut z);
     let hashed = Sha3_384::hash(message, &mut one);
     let longer = Sha3_384::hash(message, &mut long);
     line::write_line(b"SHA3-384", run, hashed, longer, &x, &y, &z, &one, &long)
@@ -327,7 +127,7 @@ fn write_sha3_512(message: &[u8]) -> bool
     let mut z = [BEFORE; 1];
     let mut one = [BEFORE; 64];
     let mut long = [BEFORE; 65];
-    let run = sha3_512(&message[0..67], &message[67..], &mut x, &mut y, &mut z);
+    let run = by_value::sha3_512(&message[0..67], &message[67..], &mut x, &mut y, &mut z);
     let hashed = Sha3_512::hash(message, &mut one);
     let longer = Sha3_512::hash(message, &mut long);
     line::write_line(b"SHA3-512", run, hashed, longer, &x, &y, &z, &one, &long)
@@ -341,7 +141,7 @@ fn write_shake128(message: &[u8]) -> bool
     let mut z = [BEFORE; 1];
     let mut one = [BEFORE; 32];
     let mut long = [BEFORE; 33];
-    let run = shake128(&message[0..67], &message[67..], &mut x, &mut y, &mut z);
+    let run = by_value::shake128(&message[0..67], &message[67..], &mut x, &mut y, &mut z);
     let hashed = Shake128::hash(message, &mut one);
     let longer = Shake128::hash(message, &mut long);
     line::write_line(b"SHAKE128", run, hashed, longer, &x, &y, &z, &one, &long)
@@ -355,7 +155,7 @@ fn write_shake256(message: &[u8]) -> bool
     let mut z = [BEFORE; 1];
     let mut one = [BEFORE; 64];
     let mut long = [BEFORE; 65];
-    let run = shake256(&message[0..67], &message[67..], &mut x, &mut y, &mut z);
+    let run = by_value::shake256(&message[0..67], &message[67..], &mut x, &mut y, &mut z);
     let hashed = Shake256::hash(message, &mut one);
     let longer = Shake256::hash(message, &mut long);
     line::write_line(b"SHAKE256", run, hashed, longer, &x, &y, &z, &one, &long)

@@ -1,4 +1,4 @@
-use mathlib.Core.Path.{_≡_, refl, ap, sym, _∙_}
+use mathlib.Core.Path.{_≡_, ap, sym, _∙_}
 use mathlib.Core.Bool.{true}
 use Prim.Native.Nat.{_≤_}
 use native.Mathlib.Omega.{arith}
@@ -11,7 +11,6 @@ use Rattle.hasher.specs.Function.{messageLimit}
 use Rattle.hasher.specs.Model.{reachable, numbers, runWith, answered}
 use Rattle.hasher.specs.declared.Run.{Run}
 use Rattle.hasher.specs.declared.Moved.{Moved}
-use Rattle.hasher.specs.declared.Answer.{Answer}
 use Rattle.hasher.proofs.Cases.{fits, status-5, absorb-3, absorb-2, absorb-0, answer-refused, absorb-answer}
 use Rattle.hasher.proofs.calls.absorb.Statement.{statement}
 use Rattle.hasher.proofs.calls.absorb.Tie as tie

@@ -1,4 +1,4 @@
-use mathlib.Core.Path.{_≡_, refl, ap, sym, _∙_}
+use mathlib.Core.Path.{_≡_, ap, sym, _∙_}
 use mathlib.Core.Bool.{true}
 use Prim.Native.Nat.{_≤_}
 use native.Mathlib.Omega.{arith}
@@ -12,7 +12,6 @@ use Rattle.hasher.specs.Function.{messageLimit}
 use Rattle.hasher.specs.Model.{reachable, numbers, runWith, answered}
 use Rattle.hasher.specs.declared.Run.{Run}
 use Rattle.hasher.specs.declared.Moved.{Moved}
-use Rattle.hasher.specs.declared.Answer.{Answer}
 use Rattle.hasher.proofs.Cases.{fits, status-5, squeeze-3, squeeze-6, squeeze-0, answer-refused, output-refused, squeeze-answer, squeeze-written}
 use Rattle.hasher.proofs.calls.squeeze.Statement.{statement}
 use Rattle.hasher.proofs.calls.squeeze.Tie as tie
