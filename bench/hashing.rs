@@ -38,6 +38,13 @@ impl Way {
         }
     }
 
+    fn step(self) -> Step {
+        match self {
+            Way::Pieces(step) | Way::InPlace(step) => Some(step),
+            Way::OneGo => None,
+        }
+    }
+
     fn words(self) -> String {
         match self {
             Way::Pieces(step) => format!("in pieces of {step} bytes"),
@@ -62,8 +69,7 @@ impl Hash {
             (Hash::Proved(f), Way::Pieces(step)) => unsafe { (f.pieces)(input, size, step, output, out.len()) },
             (Hash::Proved(f), Way::InPlace(step)) => unsafe { f.in_place.expect("it has no calls on lent lanes")(input, size, step, output, out.len()) },
             (Hash::Proved(f), Way::OneGo) => unsafe { (f.one_go)(input, size, output, out.len()) },
-            (Hash::Rust(f), Way::Pieces(step) | Way::InPlace(step)) => return f(message, Some(step), out),
-            (Hash::Rust(f), Way::OneGo) => return f(message, None, out),
+            (Hash::Rust(f), _) => return f(message, way.step(), out),
         };
         assert_eq!(status, 0, "the proved one refuses");
     }
