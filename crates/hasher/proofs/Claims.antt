@@ -11,13 +11,13 @@ use Rattle.sponge.specs.Transcript.{Call, Call.absorb, Call.squeeze, Transcript
 use Rattle.sponge.specs.Runs as runs
 use Rattle.sponge.specs.Runs.{freshRun, perform, runOf}
 use Rattle.sponge.specs.Streaming as streaming
-use Rattle.sponge.specs.Streaming.{History, joined}
+use Rattle.sponge.specs.Streaming.{History, history, joined}
 use Rattle.sponge.proofs.Corollaries.{history-held}
 use Rattle.sponge.proofs.Reachable as generic
 use Rattle.sponge.proofs.Done as done
 use Rattle.hasher.specs.Function.{Function, output, rules}
 use Rattle.hasher.specs.Model.{machine, seen, held, freshOf, performOf, writtenOf, answer, written, replyOf, progressOf, runWith, oneGoStatus, oneGoOutput}
-use Rattle.hasher.specs.Claims.{Meets, told, ran, Streaming, Calls, Joins, Callable, Reached, Five, OneGo, Claims}
+use Rattle.hasher.specs.Claims.{Lent, lentRun, freshLent, Meets, told, ran, Streaming, Promised, Calls, Joins, Callable, Reached, Five, OneGo, Claims}
 use Rattle.hasher.specs.declared.Run.{Run}
 use Rattle.hasher.specs.declared.Answer.{Answer}
 use Rattle.hasher.proofs.Guards.{answer-is, output-is, answer-same, written-same}
@@ -73,6 +73,11 @@ module _ {A : Type 0} (F : Function A) (E : Meets F) where
 
   run-told : (cs : List (Call A)) → ran F cs .left ≡ held (runOf (rules F) (machine F) (told F cs .left))
   run-told cs = ap (λ (h : History Run). h .left) (ran-held cs) ∙ ap held (corollaries F E .streaming cs .run)
+
+  -- each call on lent lanes is the one on the run of both, and so is the list
+  streams-lent : (f : Lent → Call A → Reply Lent) → Promised F f → (cs : List (Call A))
+      → ran F cs ≡ record { statuses = history f freshLent cs .statuses; bytes = history f freshLent cs .bytes; left = lentRun (history f freshLent cs .left) }
+  streams-lent f p cs = history-held f (replyOf F) lentRun p cs freshLent
 
   pub streams : (cs : List (Call A)) → Streaming F cs
   streams cs =
@@ -240,4 +245,4 @@ module _ {A : Type 0} (F : Function A) (E : Meets F) where
       sym (L .squeeze-output m a k) ∙ sym first ∙ ap (take k) (sym w)
 
   pub claims : Claims F
-  claims = record { streaming = streams; equal-transcripts = equal-transcripts; calls = calls; joins = joins; five = five; one-go = one-go; shorter = shorter }
+  claims = record { streaming = streams; streaming-lent = streams-lent; equal-transcripts = equal-transcripts; calls = calls; joins = joins; five = five; one-go = one-go; shorter = shorter }

@@ -7,16 +7,27 @@ use Prim.Native.Nat.{ℕ, suc, _+_, _^_, _≤_, _<_}
 use lib.ListN.{length, take}
 use Rattle.sponge.specs.Status.{unreachable}
 use Rattle.sponge.specs.Callable.{Slice, All}
-use Rattle.sponge.specs.Transcript.{Call, Call.absorb, Call.customize, Call.finalize, Call.finish, Call.squeeze, phaseNumber, Transcript, freshTranscript, transcribe}
+use Rattle.sponge.specs.Transcript.{Call, Call.absorb, Call.customize, Call.finalize, Call.finish, Call.squeeze, phaseNumber, Transcript, freshTranscript, transcribe, Reply}
 use Rattle.sponge.specs.Transcript as transcript
 use Rattle.sponge.specs.Model.{callStatus}
 use Rattle.sponge.specs.Runs.{runOf}
 use Rattle.sponge.specs.Streaming.{History, history, joined}
 use Rattle.hasher.specs.Function.{Function, output, rules}
-use Rattle.hasher.specs.Model.{machine, held, freshOf, answer, written, replyOf, runWith, answered, oneGoStatus, oneGoOutput}
+use Rattle.hasher.specs.Model.{machine, held, freshOf, answer, written, replyOf, progressOf, runWith, answered, oneGoStatus, oneGoOutput}
 use Rattle.hasher.specs.declared.Run.{Run}
 use Rattle.hasher.specs.declared.Progress.{Progress}
 use Rattle.hasher.specs.declared.Moved.{Moved}
+
+-- a run as a caller of the calls on lent lanes has it: the lanes, and what is held beside them
+pub record Lent : Type 0 where
+  pub lanes : List ℕ
+  pub at : Progress
+
+abbrev pub lentRun : Lent → Run
+lentRun s = runWith (s .lanes) (s .at)
+
+abbrev pub freshLent : Lent
+freshLent = record { lanes = freshOf .lanes; at = progressOf freshOf }
 
 module _ {A : Type 0} (F : Function A) where
   -- what a function owes: a rate and a number of rounds that are taken, an argument of the close that is and whose byte is one, that no argument
@@ -48,6 +59,11 @@ module _ {A : Type 0} (F : Function A) where
     pub absorbed : ran cs .left .absorbed ≡ length (told cs .left .absorbed)
     pub squeezed : ran cs .left .squeezed ≡ told cs .left .squeezed
     pub output : joined (ran cs .bytes) ≡ transcript.outputOf (rules F) (told cs .left) (told cs .left .squeezed)
+
+  -- what the contracts on lent lanes promise of f, which does a call so: status, lanes and what is held beside them are those of the answer on the run of
+  -- both, and the bytes are those that are given
+  abbrev pub Promised : (Lent → Call A → Reply Lent) → Type 0
+  Promised f = (s : Lent) (c : Call A) → replyOf F (lentRun s) c ≡ record { status = f s c .status; bytes = f s c .bytes; left = lentRun (f s c .left) }
 
   -- ---- one call, on any run
 
@@ -117,6 +133,9 @@ module _ {A : Type 0} (F : Function A) where
 
   pub record Claims : Type 0 where
     pub streaming : (cs : List (Call A)) → Streaming cs
+    -- on lent lanes a list of calls has the statuses, the bytes and the run of `ran`, of which `streaming` speaks
+    pub streaming-lent : (f : Lent → Call A → Reply Lent) → Promised f → (cs : List (Call A))
+        → ran cs ≡ record { statuses = history f freshLent cs .statuses; bytes = history f freshLent cs .bytes; left = lentRun (history f freshLent cs .left) }
     -- two lists that leave equal transcripts leave the same run
     pub equal-transcripts : (cs ds : List (Call A)) → told cs .left ≡ told ds .left → ran cs .left ≡ ran ds .left
     pub calls : Calls
