@@ -9,7 +9,7 @@ use borrow.Author.Tests.{eq-eqb, ne-eqb}
 use Rattle.sponge.specs.Cut.{puts}
 use Rattle.sponge.specs.Published.{xorByte, bytesFrom}
 use Rattle.sponge.specs.Waiting.{ready}
-use Rattle.sponge.specs.Model.{Sponge, absorbBytes, pad, squeezeBytes, afterBytes}
+use Rattle.sponge.specs.Model.{Sponge, absorbBytes, pad, padWith, squeezeBytes, afterBytes}
 use Rattle.sponge.proofs.Waiting.{steps-in, steps-part, steps-done}
 use Rattle.sponge.proofs.Published.{squeeze-in, after-in}
 
@@ -47,7 +47,7 @@ module _ (P : List ℕ → List ℕ) (rate : ℕ) where
 
     -- the last byte, 80 and the permutation
     pub pad-part : (d : ℕ) → record { value = P (xorByte (xorByte v at d) (rate - 1) 0x80); position = 0 } ≡ pad P rate s d
-    unfolding pad
+    unfolding padWith
     pad-part d = rw (← e)
 
   -- bytes that the block in hand has room for: m and n are the lanes and the position after them

@@ -1,4 +1,4 @@
--- Laws of the sponge. Those marked `pub` serve the crates above: `Published` (the fold computes the published sponge), `Position`, `Valid`
+-- Laws of the sponge. Those marked `pub` serve the crates above: `Published` (the fold computes the published sponge), `Position`, `Count`, `Valid`
 -- (the calls' two cases), `Following` to `Corollaries` (lists of calls, and what follows), `Answers`, `Pieces` and `PieceStatus` (one call,
 -- and calls in a row). The rest serves the functions' own proofs.
 pub mod Xor
@@ -6,6 +6,7 @@ pub mod XorByte
 pub mod Waiting
 pub mod Published
 pub mod Position
+pub mod Count
 pub mod FirstStatus
 pub mod Valid
 pub mod Following

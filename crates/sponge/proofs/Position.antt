@@ -15,12 +15,12 @@ use Rattle.sponge.specs.Model.{Sponge, afterByte, afterBytes}
 -- ---- the next number's digits
 
 module _ (m r : ℕ) (pos : 0 < r) where
-  carry : suc (m % r) ≡ r → (suc m / r ≡ suc (m / r)) × (suc m % r ≡ 0)
+  pub carry : suc (m % r) ≡ r → (suc m / r ≡ suc (m / r)) × (suc m % r ≡ 0)
   carry e =
       let w : suc m ≡ suc (m / r) * r + 0 = omega (arith, div-add-mod' m r) in
       (rw w (digits-div (suc (m / r)) pos), rw w (digits-mod (suc (m / r)) pos))
 
-  stay : ¬ (suc (m % r) ≡ r) → (suc m / r ≡ m / r) × (suc m % r ≡ suc (m % r))
+  pub stay : ¬ (suc (m % r) ≡ r) → (suc m / r ≡ m / r) × (suc m % r ≡ suc (m % r))
   stay ne =
       let w : suc m ≡ m / r * r + suc (m % r) = omega (arith, div-add-mod' m r) in
       let l : suc (m % r) < r = omega (arith, mod-lt m pos) in

@@ -13,7 +13,7 @@ use Rattle.keccak.specs.State.{byteAt}
 use Rattle.sponge.specs.Cut.{ceil, pieces, cut, puts}
 use Rattle.sponge.specs.Published.{xorByte, bytesFrom, xorLast, zeroLanes, padded, absorbBlocks, squeezeBlocks, absorbed, sponge}
 use Rattle.sponge.specs.Waiting.{ready, step}
-use Rattle.sponge.specs.Model.{Sponge, fresh, absorbBytes, pad, squeezeByte, afterByte, squeezeBytes, afterBytes}
+use Rattle.sponge.specs.Model.{Sponge, fresh, absorbBytes, pad, padWith, squeezeByte, afterByte, squeezeBytes, afterBytes}
 use Rattle.sponge.proofs.Waiting.{Held, held, steps-append, steps-in, walk, steps-pieces}
 use Rattle.sponge.proofs.Xor.{xorByte-zero, xorByte-twice}
 
@@ -102,7 +102,7 @@ module _ (P : List ℕ → List ℕ) (rate : ℕ) (pos : 0 < rate) where
 
   -- the padding ends the published absorbing phase
   pub pad-absorbed : (m : List ℕ) (d : ℕ) → pad P rate (absorbBytes P rate fresh m) d ≡ record { value = absorbed P rate m d; position = 0 }
-  unfolding pad absorbed padded
+  unfolding padWith absorbed padded
   pad-absorbed m d =
       ap (λ (x : List ℕ). record { value = x; position = 0 })
       (ap (λ (t : Sponge). P (xorByte (t .value) (rate - 1) 0x80)) (sym (steps-append P xorByte rate fresh m (d ∷ [])))

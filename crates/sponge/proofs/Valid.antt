@@ -11,7 +11,7 @@ use borrow.Author.Tests.{leb-true, le-leb, lt-leb}
 use Rattle.keccak.specs.Permutation.{roundsStatus, lastRounds}
 use Rattle.sponge.specs.Published.{zeroLanes}
 use Rattle.sponge.specs.Status.{done, unreachable}
-use Rattle.sponge.specs.Model.{Sponge, absorbBytes, pad, squeezeBytes, afterBytes, valid, callStatus, outcome, absorbCall, padCall, squeezeCall, squeezeOutput}
+use Rattle.sponge.specs.Model.{Sponge, absorbBytes, pad, padWith, squeezeBytes, afterBytes, valid, callStatus, outcome, absorbCall, padCall, squeezeCall, squeezeOutput}
 use Rattle.sponge.specs.Transcript.{lent}
 use Rattle.sponge.proofs.FirstStatus.{first-zero}
 
@@ -109,5 +109,5 @@ zero-lanes = refl
 
 -- a padded block is a new one
 pub pad-position : (P : List ℕ → List ℕ) (rate : ℕ) (s : Sponge) (d : ℕ) → pad P rate s d .position ≡ 0
-unfolding pad
+unfolding padWith
 pad-position P rate s d = refl

@@ -3,6 +3,7 @@ pub mod Published
 pub mod Waiting
 pub mod Words
 pub mod Model
+pub mod Count
 pub mod Status
 pub mod Transcript
 pub mod Callable

@@ -20,29 +20,34 @@ Sponge = At (List ℕ)
 abbrev pub fresh : Sponge
 fresh = record { value = zeroLanes; position = 0 }
 
+-- over any value that is permuted: the lanes, or the lanes with a count beside them
+module _ {X : Type 0} (P : X → X) (rate : ℕ) where
+  -- the byte d follows the message, 80 goes into the block's last byte, and the permutation follows
+  unfoldable pub padWith : (X → ℕ → ℕ → X) → At X → ℕ → At X
+  padWith put s d = record { value = P (put (step P put rate s d .value) (rate - 1) 0x80); position = 0 }
+
+  -- what is left after a byte of output, and after k bytes
+  abbrev pub afterByte : At X → At X
+  afterByte s = record { value = ready P rate s .value; position = suc (ready P rate s .position) }
+
+  abbrev pub afterBytes : ℕ → At X → At X
+  afterBytes zero s = s
+  afterBytes (suc k) s = afterBytes k (afterByte s)
+
 module _ (P : List ℕ → List ℕ) (rate : ℕ) where
   abbrev pub absorbBytes : Sponge → List ℕ → Sponge
   absorbBytes = steps P xorByte rate
 
-  -- the byte d follows the message, 80 goes into the block's last byte, and the permutation follows
-  unfoldable pub pad : Sponge → ℕ → Sponge
-  pad s d = record { value = P (xorByte (step P xorByte rate s d .value) (rate - 1) 0x80); position = 0 }
+  abbrev pub pad : Sponge → ℕ → Sponge
+  pad = padWith P rate xorByte
 
-  -- a byte of output, and the sponge after it
+  -- a byte of output, and k bytes
   abbrev pub squeezeByte : Sponge → ℕ
   squeezeByte s = byteAt (ready P rate s .value) (ready P rate s .position)
 
-  abbrev pub afterByte : Sponge → Sponge
-  afterByte s = record { value = ready P rate s .value; position = suc (ready P rate s .position) }
-
-  -- k bytes of output, and the sponge after them
   abbrev pub squeezeBytes : ℕ → Sponge → List ℕ
   squeezeBytes zero s = []
-  squeezeBytes (suc k) s = squeezeByte s ∷ squeezeBytes k (afterByte s)
-
-  abbrev pub afterBytes : ℕ → Sponge → Sponge
-  afterBytes zero s = s
-  afterBytes (suc k) s = afterBytes k (afterByte s)
+  squeezeBytes (suc k) s = squeezeByte s ∷ squeezeBytes k (afterByte P rate s)
 
 -- ---- the calls
 
