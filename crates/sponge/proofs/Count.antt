@@ -103,6 +103,17 @@ module _ (r : ℕ) (pos : 0 < r) where
       by (yes e) rest = rw (eq-eqb (suc (m % r)) r e, add-suc, ← suc-add) (rw (carry m r pos e .0, carry m r pos e .1) at rest)
       by (no ne) rest = rw (ne-eqb (suc (m % r)) r ne) (rw (stay m r pos ne .0, stay m r pos ne .1) at rest)
 
+  -- k bytes after n, within the block
+  pub position-none : (n k : ℕ) → positionAfter r n + k ≤ r → positionAfter r (n + k) ≡ positionAfter r n + k
+  position-none n zero h = rw (add-zero, add-zero)
+  position-none zero (suc k) h =
+      let one : positionAfter r 1 ≡ 1 = rw zero-mod in
+      ap (positionAfter r) (add-suc 0 k ∙ sym (suc-add 0 k)) ∙ position-none 1 k (rw one (omega (arith, h))) ∙ ap (λ (p : ℕ). p + k) one ∙ omega arith
+  position-none (suc m) (suc k) h =
+      let ne : (suc (m % r) ≡ r → ⊥) = λ e. omega (arith, h, e) in
+      let next : positionAfter r (suc (suc m)) ≡ suc (suc (m % r)) = ap suc (stay m r pos ne .1) in
+      ap (positionAfter r) (add-suc (suc m) k ∙ sym (suc-add (suc m) k)) ∙ position-none (suc (suc m)) k (rw next (omega (arith, h))) ∙ ap (λ (p : ℕ). p + k) next ∙ omega arith
+
   -- the padding after m bytes
   pub pad-count : (m : ℕ) → openCount r m + padAdded r (positionAfter r m) ≡ closedCount r m 0
   pad-count m =
