@@ -19,7 +19,7 @@ use Rattle.kangarootwelve.specs.Transcript.{Callable}
 use Rattle.kangarootwelve.specs.Model.{Nodes, machine, seen}
 use Rattle.kangarootwelve.proofs.Answers.{customized-is}
 use Rattle.kangarootwelve.proofs.Encoding.{encode-zero}
-use Rattle.kangarootwelve.proofs.Laws.{positions, due, shape, shaped, first-is, second-is}
+use Rattle.kangarootwelve.proofs.Laws.{positions, due, shape, shaped, first-is, second-is, third-is}
 use Rattle.kangarootwelve.proofs.Streaming as kt-streaming
 use Rattle.journal.specs.Published.{framed, message}
 use Rattle.journal.specs.Transcript.{eventLimit, eventStatus, framedCall, rulesAt}
@@ -29,7 +29,7 @@ use Rattle.journal.specs.declared.Journal.{Journal}
 use Rattle.journal.proofs.Streaming.{laws, dayTold, streaming, told-fits}
 use Rattle.journal.proofs.Appended.{EachFits, appends, told-appends}
 
--- a list of calls from a fresh day that leaves j's phase, totals and positions
+-- a list of calls from a fresh day that leaves j's phase, totals, positions and permutations
 pub record Reached (j : Journal) : Type 0 where
   pub calls : List (Call (List ℕ))
   pub phase-is : ran calls .left .run .phase ≡ j .run .phase
@@ -38,6 +38,7 @@ pub record Reached (j : Journal) : Type 0 where
   pub squeezed-is : ran calls .left .run .squeezed ≡ j .run .squeezed
   pub node-is : ran calls .left .run .node .position ≡ j .run .node .position
   pub leaf-is : ran calls .left .run .leaf .position ≡ j .run .leaf .position
+  pub permutations-is : ran calls .left .run .permutations ≡ j .run .permutations
 
 -- ---- a day that the test passes is reached
 
@@ -71,8 +72,9 @@ reached-at r e =
       absorbed-is = ap (λ (j : Journal). j .run .absorbed) is ∙ l;
       customized-is = ap (λ (j : Journal). j .run .customized) is ∙ sym (customized-is 168 32 (told .state)) ∙ customized ∙ customized-is 168 32 (r .state);
       squeezed-is = ap (λ (j : Journal). j .run .squeezed) is;
-      node-is = ap (λ (j : Journal). j .run .node .position) is ∙ first-is _ _ _ _ at;
-      leaf-is = ap (λ (j : Journal). j .run .leaf .position) is ∙ second-is _ _ _ _ at;
+      node-is = ap (λ (j : Journal). j .run .node .position) is ∙ first-is at;
+      leaf-is = ap (λ (j : Journal). j .run .leaf .position) is ∙ second-is at;
+      permutations-is = ap (λ (j : Journal). j .run .permutations) is ∙ third-is at;
     }
 
 pub reachable-reached : (j : Journal) → machine 168 32 .reachable (seen (j .run)) ≡ true → Reached j
@@ -84,7 +86,7 @@ pub reached-reachable : (j : Journal) → Reached j → machine 168 32 .reachabl
 reached-reachable j g =
     let passes : machine 168 32 .reachable (seen (ran (g .calls) .left .run)) ≡ true = rw (streaming (g .calls) .day) (laws .run-reachable _ (told-fits (g .calls))) in
     generic.alike-reachable (kt.rules 168 32) (machine 168 32) laws positions (due 168 32) (shape 168 32) (shaped 168 32) (seen (ran (g .calls) .left .run)) (seen (j .run)) passes
-    (g .phase-is) (g .absorbed-is) (customized-is 168 32 _ ∙ g .customized-is ∙ sym (customized-is 168 32 (seen (j .run) .state))) (g .squeezed-is) (rw (g .node-is, g .leaf-is))
+    (g .phase-is) (g .absorbed-is) (customized-is 168 32 _ ∙ g .customized-is ∙ sym (customized-is 168 32 (seen (j .run) .state))) (g .squeezed-is) (rw (g .node-is, g .leaf-is, g .permutations-is))
 
 -- ---- 5 is the status of that test and of no other
 

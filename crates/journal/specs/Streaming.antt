@@ -9,6 +9,7 @@ use Rattle.sponge.specs.Runs.{runOf}
 use Rattle.sponge.specs.Streaming.{History, history, joined}
 use Rattle.kangarootwelve.specs.Transcript as kangarootwelve
 use Rattle.kangarootwelve.specs.Model.{machine}
+use Rattle.kangarootwelve.specs.Claims.{defined, due}
 use Rattle.journal.specs.Published.{message, digest}
 use Rattle.journal.specs.Transcript.{transcribe}
 use Rattle.journal.specs.Model.{dayOf, freshDay, replyOf}
@@ -42,10 +43,13 @@ digestOf (customizing c) es n = []
 digestOf (squeezing name) es n = digest es name n
 
 -- the statuses and the bytes of each call are the book's; the day left is the one that the book tells of, a function of the book alone; the
--- book's F is the message of the events taken; and the bytes given, joined, are the first bytes of their digest
+-- book's F is the message of the events taken; the bytes given, joined, are the first bytes of their digest; and the permutations of the day left are
+-- the definition's for the book, and what its totals tell
 pub record Streaming (cs : List (Call (List ℕ))) : Type 0 where
   pub statuses : ran cs .statuses ≡ told cs .statuses
   pub bytes : ran cs .bytes ≡ told cs .bytes
   pub day : ran cs .left ≡ dayOf (runOf (kangarootwelve.rules 168 32) (machine 168 32) (told cs .left))
   pub absorbed : told cs .left .absorbed ≡ message (taken freshTranscript cs)
   pub output : joined (ran cs .bytes) ≡ digestOf (told cs .left .phase) (taken freshTranscript cs) (told cs .left .squeezed)
+  pub permutations : ran cs .left .run .permutations ≡ defined 168 32 (told cs .left)
+  pub totals : ran cs .left .run .permutations ≡ due 168 32 (told cs .left)

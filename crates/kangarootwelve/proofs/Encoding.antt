@@ -5,6 +5,7 @@ use mathlib.Core.Path.{_≡_, refl, sym, ap, ap₂, _∙_, subst}
 use mathlib.Core.List.{List, [], _∷_, _++_, append-assoc}
 use Prim.Native.Nat.{ℕ, zero, suc, _+_, _-_, _/_, _%_, _^_, _≤_, _<_, zero-le}
 use native.Mathlib.Nat.{div-lt-iff-lt-mul, zero-lt-suc, le-refl, pow-suc}
+use native.Mathlib.Numerals.{add-one}
 use native.Mathlib.Omega.{arith}
 use lib.ListN.{length, take, drop, set, replicate, length-append, length-replicate, length-drop, take-append-drop, drop-of-length-le}
 use lib.Seq.{set-split, drop-at, drop-set-add, length-take-le, take-all, take-take, take-set-le}
@@ -26,6 +27,36 @@ digits-enough (suc f) (suc g) (suc x) h k = ap (λ (s : List ℕ). s ++ suc x % 
 digits-last : (x : ℕ) → 0 < x → digits x x ≡ digits (x / 256) (x / 256) ++ x % 256 ∷ []
 digits-last zero h = absurd (omega arith)
 digits-last (suc x) h = ap (λ (s : List ℕ). s ++ suc x % 256 ∷ []) (digits-enough x (suc x / 256) (suc x / 256) (omega arith) (le-refl _))
+
+-- ---- how many bytes an encoding has
+
+count-last : (x : ℕ) → 0 < x → length (digits x x) ≡ suc (length (digits (x / 256) (x / 256)))
+count-last x h = ap length (digits-last x h) ∙ length-append (digits (x / 256) (x / 256)) (x % 256 ∷ []) ∙ add-one _
+
+count-1 : (x : ℕ) → 0 < x → x < 256 → length (digits x x) ≡ 1
+count-1 x h l = let z : x / 256 ≡ 0 = omega arith in count-last x h ∙ rw z
+
+count-2 : (x : ℕ) → 256 ≤ x → x < 65536 → length (digits x x) ≡ 2
+count-2 x h l = count-last x (omega arith) ∙ ap suc (count-1 (x / 256) (omega arith) (omega arith))
+
+count-3 : (x : ℕ) → 65536 ≤ x → x < 16777216 → length (digits x x) ≡ 3
+count-3 x h l = count-last x (omega arith) ∙ ap suc (count-2 (x / 256) (omega arith) (omega arith))
+
+encode-count : (x n : ℕ) → length (digits x x) ≡ n → suc n ≡ length (lengthEncode x)
+unfolding lengthEncode
+encode-count x n e = sym (length-append (digits x x) (length (digits x x) ∷ []) ∙ add-one _ ∙ ap suc e)
+
+pub encode-1 : (x : ℕ) → x ≡ 0 → 1 ≡ length (lengthEncode x)
+encode-1 x e = rw e (encode-count 0 0 refl)
+
+pub encode-2 : (x : ℕ) → (x ≡ 0 → ⊥) → x < 256 → 2 ≡ length (lengthEncode x)
+encode-2 x h l = encode-count x 1 (count-1 x (omega (arith, h)) l)
+
+pub encode-3 : (x : ℕ) → 256 ≤ x → x < 65536 → 3 ≡ length (lengthEncode x)
+encode-3 x h l = encode-count x 2 (count-2 x h l)
+
+pub encode-4 : (x : ℕ) → 65536 ≤ x → x < 16777216 → 4 ≡ length (lengthEncode x)
+encode-4 x h l = encode-count x 3 (count-3 x h l)
 
 drop-set : (s : List ℕ) (j b : ℕ) → j < length s → drop j (set s j b) ≡ b ∷ drop (suc j) s
 drop-set s j b h = rw (set-split s j b h) (drop-at (take j s) (b ∷ drop (suc j) s) j (length-take-le j s (omega arith)))

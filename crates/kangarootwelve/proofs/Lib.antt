@@ -2,6 +2,10 @@
 -- and `Pieces` (what a call does, and calls in a row), `Encoding`, `Merged` and `Tags` (what the tag check's answer says); the rest serves
 -- the functions' own proofs.
 pub mod Published
+pub mod Count
+mod CountedTree
+mod Counting
+mod Due
 pub mod Laws
 pub mod Streaming
 pub mod Answers
@@ -10,7 +14,11 @@ pub mod Merged
 pub mod Pieces
 pub mod Tags
 mod Nodes
+mod Tests
 mod Cases
+mod Numbers
 mod OneGo
 mod Mac
 mod Examples
+pub mod Claims
+mod CountExamples

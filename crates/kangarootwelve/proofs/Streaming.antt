@@ -4,22 +4,24 @@
 use mathlib.Core.Path.{_≡_, refl, ap, _∙_}
 use mathlib.Core.List.{List}
 use mathlib.Core.Bool.{Bool, true, false, cond}
-use Prim.Native.Nat.{ℕ, zero, suc, _<_, _≤_}
+use Prim.Native.Nat.{ℕ, zero, suc, _+_, _<_, _≤_}
 use native.Mathlib.Nat.{zero-add}
 use native.Mathlib.Omega.{arith}
 use lib.Dec.{leb}
 use lib.ListN.{length, replicate, length-replicate}
 use Rattle.sponge.specs.Status.{unreachable}
-use Rattle.sponge.specs.Transcript.{Call, Phase, Phase.absorbing, Phase.customizing, Phase.squeezing, Transcript}
+use Rattle.sponge.specs.Transcript.{Call, Phase, Phase.absorbing, Phase.customizing, Phase.squeezing, phaseNumber, Transcript}
 use Rattle.sponge.specs.Runs.{Run, freshRun, perform, stateOf, runOf}
 use Rattle.sponge.specs.Streaming.{history, Streaming, told, ran}
 use Rattle.sponge.specs.Callable.{Bytes, Slice}
+use Rattle.sponge.proofs.Streaming.{Fits}
 use Rattle.sponge.proofs.Corollaries as generic
 use Rattle.sponge.proofs.Corollaries.{Corollaries, history-held}
 use Rattle.sponge.proofs.Reachable.{Statuses}
 use Rattle.kangarootwelve.specs.Transcript.{customizationLimit, customizationStatus, customizedOf, rules, Callable}
+use Rattle.kangarootwelve.specs.Count.{countDue}
 use Rattle.kangarootwelve.specs.Model.{Nodes, machine, held, freshOf, answerOf, replyOf}
-use Rattle.kangarootwelve.proofs.Laws.{positions, due, customization-taken, shape, shaped, laws, stays}
+use Rattle.kangarootwelve.proofs.Laws.{positions, due, customization-taken, shape, count-due, shaped, laws, stays}
 
 -- no C answers 5
 no-five : (rate chaining : ℕ) (c : List ℕ) → rules rate chaining .argument c ≡ unreachable → ⊥
@@ -80,6 +82,16 @@ module _ (rate chaining : ℕ) (pos : 0 < rate) where
   pub customized-told : (cs : List (Call (List ℕ)))
       → ran (rules rate chaining) (machine rate chaining) cs .left .state .customized ≡ customizedOf (told (rules rate chaining) (machine rate chaining) cs .left .phase)
   customized-told cs = ap (λ (r : Run Nodes). r .state .customized) (streaming cs .run) ∙ told-customized rate chaining (told (rules rate chaining) (machine rate chaining) cs .left)
+
+  -- the permutations of the run that a transcript tells of, by its totals
+  pub count-told : (t : Transcript (List ℕ)) → Fits (rules rate chaining) t
+      → runOf (rules rate chaining) (machine rate chaining) t .state .permutations
+      ≡ countDue rate chaining (phaseNumber (t .phase)) (length (t .absorbed) + customizedOf (t .phase)) (customizedOf (t .phase)) (t .squeezed)
+  unfolding machine
+  count-told t h =
+      let r : Run Nodes = runOf (rules rate chaining) (machine rate chaining) t in
+      count-due rate chaining r (shape rate chaining r (laws rate chaining pos .run-reachable t h) .positions-due)
+      ∙ ap (λ (c : ℕ). countDue rate chaining (phaseNumber (t .phase)) (length (t .absorbed) + c) c (t .squeezed)) (told-customized rate chaining t)
 
   -- the list theorem on the code's own runs: `answerOf`, which the contracts cite, from `freshOf`
   pub streaming-code : (cs : List (Call (List ℕ)))

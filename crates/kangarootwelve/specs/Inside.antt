@@ -1,12 +1,15 @@
 -- What the contracts of private functions say: a tree and a run from lent lanes and numbers.
 -- Assumes nothing.
 use mathlib.Core.List.{List}
+use mathlib.Core.Bool.{Bool, _&&_}
 use Prim.Native.Nat.{ℕ, zero, suc, _+_, _≤_}
 use lib.ListN.{take, drop}
+use lib.Dec.{eqb}
 use Rattle.sponge.specs.Waiting.{At, positionAfter, indexAfter}
 use Rattle.kangarootwelve.specs.Published.{chunk}
 use Rattle.kangarootwelve.specs.Tree.{Tree, putTo, endChunk}
-use Rattle.kangarootwelve.specs.Model.{Answer}
+use Rattle.kangarootwelve.specs.Count.{openKt}
+use Rattle.kangarootwelve.specs.Model.{finalDue, leafDue, reachable, Answer}
 use Rattle.kangarootwelve.specs.declared.Run.{Run}
 use Rattle.kangarootwelve.specs.declared.Progress.{Progress}
 use Rattle.kangarootwelve.specs.declared.Moved.{Moved}
@@ -35,10 +38,19 @@ endedChunks rate chaining (suc n) t s = endedChunks rate chaining n (endedChunk 
 
 -- what a run holds beside its lanes, and where its next byte goes
 abbrev pub progressOf : Run → Progress
-progressOf r = record { node = r .node .position; leaf = r .leaf .position; phase = r .phase; absorbed = r .absorbed; customized = r .customized; squeezed = r .squeezed }
+progressOf r = record { node = r .node .position; leaf = r .leaf .position; phase = r .phase; absorbed = r .absorbed; customized = r .customized; squeezed = r .squeezed; permutations = r .permutations }
 
 abbrev pub placeOf : Progress → Place
 placeOf p = record { node = p .node; leaf = p .leaf; index = indexAfter chunk (p .absorbed + p .customized); position = positionAfter chunk (p .absorbed + p .customized) }
+
+-- the test of status 5 on what a run holds; and the part of it that an open run's bytes of M and C tell, positions and permutations
+abbrev pub reachedAt : ℕ → ℕ → Progress → Bool
+reachedAt rate chaining p = reachable rate chaining (p .node) (p .leaf) (p .phase) (p .absorbed) (p .customized) (p .squeezed) (p .permutations)
+
+abbrev pub openDue : ℕ → ℕ → Progress → Bool
+openDue rate chaining p =
+    eqb (p .node) (finalDue rate chaining (p .absorbed + p .customized))
+    && (eqb (p .leaf) (leafDue rate (p .absorbed + p .customized)) && eqb (p .permutations) (openKt rate chaining (p .absorbed + p .customized)))
 
 -- a run and an answer from their parts
 abbrev pub runWith : List ℕ → List ℕ → Progress → Run
@@ -49,6 +61,7 @@ runWith final leaf p = record {
   absorbed = p .absorbed;
   customized = p .customized;
   squeezed = p .squeezed;
+  permutations = p .permutations;
 }
 
 abbrev pub answered : Moved → List ℕ → List ℕ → Answer

@@ -1,6 +1,9 @@
 pub mod Published
 pub mod Transcript
 pub mod Tree
+pub mod Count
 pub mod Model
 pub mod Inside
 pub mod Mac
+pub mod Claims
+pub mod Examples

@@ -8,6 +8,7 @@ use lib.Dec.{eqb, leb}
 use Rattle.keccak.specs.Permutation.{permuted}
 use Rattle.sponge.specs.Waiting.{At, positionAfter, indexAfter}
 use Rattle.sponge.specs.Model.{Sponge, fresh, squeezeBytes, afterBytes}
+use Rattle.sponge.specs.Count.{counted, countedFrom}
 use Rattle.sponge.specs.Status.{done, inputTooLong, outputTooLong, badLength, firstOf}
 use Rattle.sponge.specs.Transcript.{Call, Call.squeeze, Reply, lent}
 use Rattle.sponge.specs.Runs as runs
@@ -16,6 +17,7 @@ use Rattle.turboshake.specs.Transcript.{messageLimit, outputLimit}
 use Rattle.kangarootwelve.specs.Published.{lengthEncode, chunk, kt}
 use Rattle.kangarootwelve.specs.Transcript.{customizationLimit, customizationStatus, rules}
 use Rattle.kangarootwelve.specs.Tree.{Tree, absorbTree, finishTree, finalizeTree}
+use Rattle.kangarootwelve.specs.Count.{CountedTree, countAbsorbed, countFinished, countFinalized, countDue}
 use Rattle.kangarootwelve.specs.declared.Run.{Run}
 use Rattle.kangarootwelve.specs.declared.Kt128.{Kt128}
 use Rattle.kangarootwelve.specs.declared.Answer128.{Answer128}
@@ -23,18 +25,26 @@ use Rattle.kangarootwelve.specs.declared.Kt256.{Kt256}
 use Rattle.kangarootwelve.specs.declared.Answer256.{Answer256}
 use Rattle.kangarootwelve.specs.declared.LengthEncoding.{LengthEncoding}
 
--- the two sponges of a run, and its customization bytes, the third total
+-- the two sponges of a run, its customization bytes, the third total, and the permutations of the definition so far (request Q-10)
 pub record Nodes : Type 0 where
   pub final : Sponge
   pub leaf : Sponge
   pub customized : ℕ
+  pub permutations : ℕ
 
-abbrev pub nodesOf : Tree → ℕ → Nodes
-nodesOf t n = record { final = t .final; leaf = t .leaf; customized = n }
+abbrev pub nodesOf : Tree → ℕ → ℕ → Nodes
+nodesOf t c n = record { final = t .final; leaf = t .leaf; customized = c; permutations = n }
 
 -- the tree after n bytes of S: the chunk in hand and the position in it are told by n
 abbrev pub treeAt : ℕ → Nodes → At Tree
 treeAt n s = record { value = record { final = s .final; leaf = s .leaf; index = indexAfter chunk n }; position = positionAfter chunk n }
+
+-- the same, counted: of both nodes' permutations the sum alone is told, so the final node has them all
+abbrev pub countAt : ℕ → Nodes → At CountedTree
+countAt n s = record {
+  value = record { final = countedFrom (s .final) (s .permutations); leaf = countedFrom (s .leaf) 0; index = indexAfter chunk n };
+  position = positionAfter chunk n;
+}
 
 -- ---- the test of status 5
 
@@ -56,25 +66,41 @@ leafDue rate n = positionAfter rate (leafCount (indexAfter chunk n) (positionAft
 
 -- what a run reached from a fresh one has: in phase 0 no customization byte; in phases 0 and 2 nothing is squeezed and the positions tell
 -- the bytes of M and C; in phase 1 the final node's tells the bytes squeezed, and the leaf is fresh again; lanes are not looked at
-unfoldable pub reachable : ℕ → ℕ → ℕ → ℕ → ℕ → ℕ → ℕ → ℕ → Bool
-reachable rate chaining finalPosition leafPosition phase absorbed customized squeezed =
+unfoldable pub placed : ℕ → ℕ → ℕ → ℕ → ℕ → ℕ → ℕ → ℕ → Bool
+placed rate chaining finalPosition leafPosition phase absorbed customized squeezed =
     leb absorbed messageLimit
     && (leb customized (cond (eqb phase 0) 0 customizationLimit)
     && cond (eqb phase 1) (leb squeezed outputLimit && (eqb finalPosition (positionAfter rate squeezed) && eqb leafPosition 0))
     (leb phase 2 && (eqb squeezed 0 && (eqb finalPosition (finalDue rate chaining (absorbed + customized)) && eqb leafPosition (leafDue rate (absorbed + customized))))))
 
--- what becomes of the two sponges, and the test of status 5; the customization bytes follow the n of M
+-- and in every phase the totals tell the permutations
+unfoldable pub reachable : ℕ → ℕ → ℕ → ℕ → ℕ → ℕ → ℕ → ℕ → ℕ → Bool
+reachable rate chaining finalPosition leafPosition phase absorbed customized squeezed permutations =
+    placed rate chaining finalPosition leafPosition phase absorbed customized squeezed
+    && eqb permutations (countDue rate chaining phase (absorbed + customized) customized squeezed)
+
+-- what becomes of the two sponges and of the number of permutations, and the test of status 5; the customization bytes follow the n of M
 unfoldable pub machine : ℕ → ℕ → Machine Nodes (List ℕ)
 machine rate chaining = record {
-  fresh = record { final = fresh; leaf = fresh; customized = 0 };
-  absorb = λ n s p. nodesOf (absorbTree rate chaining (treeAt n s) p .value) (s .customized);
-  customize = λ n s p. nodesOf (absorbTree rate chaining (treeAt (n + s .customized) s) p .value) (s .customized + length p);
-  finalize = λ n s c. record { final = finalizeTree rate chaining (treeAt n s) c; leaf = fresh; customized = length c };
-  finish = λ n s. record { final = finishTree rate chaining (treeAt (n + s .customized) s) (s .customized); leaf = fresh; customized = s .customized };
+  fresh = record { final = fresh; leaf = fresh; customized = 0; permutations = 0 };
+  absorb = λ n s p. nodesOf (absorbTree rate chaining (treeAt n s) p .value) (s .customized) (countAbsorbed rate chaining (countAt n s) p);
+  customize = λ n s p. nodesOf (absorbTree rate chaining (treeAt (n + s .customized) s) p .value) (s .customized + length p) (countAbsorbed rate chaining (countAt (n + s .customized) s) p);
+  finalize = λ n s c. record { final = finalizeTree rate chaining (treeAt n s) c; leaf = fresh; customized = length c; permutations = countFinalized rate chaining (countAt n s) c };
+  finish = λ n s. record {
+    final = finishTree rate chaining (treeAt (n + s .customized) s) (s .customized);
+    leaf = fresh;
+    customized = s .customized;
+    permutations = countFinished rate chaining (countAt (n + s .customized) s) (s .customized);
+  };
   squeeze = λ k s. squeezeBytes permuted rate k (s .final);
-  after = λ k s. record { final = afterBytes permuted rate k (s .final); leaf = s .leaf; customized = s .customized };
+  after = λ k s. record {
+    final = afterBytes permuted rate k (s .final);
+    leaf = s .leaf;
+    customized = s .customized;
+    permutations = afterBytes (counted permuted) rate k (countedFrom (s .final) (s .permutations)) .value .1;
+  };
   customized = λ s. s .customized;
-  reachable = λ r. reachable rate chaining (r .state .final .position) (r .state .leaf .position) (r .phase) (r .absorbed) (r .state .customized) (r .squeezed);
+  reachable = λ r. reachable rate chaining (r .state .final .position) (r .state .leaf .position) (r .phase) (r .absorbed) (r .state .customized) (r .squeezed) (r .state .permutations);
 }
 
 -- ---- the code's structs
@@ -86,6 +112,7 @@ seen r = record {
     final = record { value = r .node .lanes; position = r .node .position };
     leaf = record { value = r .leaf .lanes; position = r .leaf .position };
     customized = r .customized;
+    permutations = r .permutations;
   };
   phase = r .phase;
   absorbed = r .absorbed;
@@ -100,6 +127,7 @@ held r = record {
   absorbed = r .absorbed;
   customized = r .state .customized;
   squeezed = r .squeezed;
+  permutations = r .state .permutations;
 }
 
 unfoldable pub freshOf : ℕ → ℕ → Run

@@ -1,123 +1,34 @@
 // The calls on a run, over the rate and the length of a chaining value.
 ghost use mathlib.Core.Path.{_≡_};
 ghost use mathlib.Core.List.{List};
-ghost use mathlib.Core.Bool.{cond};
+ghost use mathlib.Core.Bool.{true, cond};
 ghost use Prim.Native.Nat.{ℕ, _+_, _^_, _<_, _≤_};
 ghost use lib.ListN.{length};
 ghost use lib.Dec.{eqb};
-ghost use Rattle.sponge.specs.Waiting.{positionAfter, indexAfter};
 ghost use Rattle.sponge.specs.Transcript.{Call};
-ghost use Rattle.turboshake.specs.Transcript.{messageLimit};
-ghost use Rattle.kangarootwelve.specs.Published.{chunk};
+ghost use Rattle.turboshake.specs.Transcript.{messageLimit, outputLimit};
 ghost use Rattle.kangarootwelve.specs.Transcript.{customizationLimit};
-ghost use Rattle.kangarootwelve.specs.Model.{finalDue, leafDue, reachable, freshOf, answerOf, outputOf};
-ghost use Rattle.kangarootwelve.specs.Inside.{progressOf, placeOf, runWith, answered};
+ghost use Rattle.kangarootwelve.specs.Count.{openKt, closedKt};
+ghost use Rattle.kangarootwelve.specs.Model.{freshOf, answerOf, outputOf};
+ghost use Rattle.kangarootwelve.specs.Inside.{progressOf, placeOf, openDue, runWith, answered};
 use crate::CUSTOMIZATION_LIMIT;
 use crate::Moved;
 use crate::Place;
 use crate::Progress;
 use crate::Run;
 use crate::State;
+use crate::reached;
+use crate::totals;
 use crate::tree;
 use sponge::status;
 use turboshake::MESSAGE_LIMIT;
 use turboshake::OUTPUT_LIMIT;
 
-const ABSORBING: u8 = 0;
+pub(crate) const ABSORBING: u8 = 0;
 
-const SQUEEZING: u8 = 1;
+pub(crate) const SQUEEZING: u8 = 1;
 
-const CUSTOMIZING: u8 = 2;
-
-// The position after n bytes in pieces of r: a full piece is left full.
-fn position_after(r: usize, n: u64) -> usize
-    requires { ⌜ 0 < r ⌝ }
-    ensures { λ p. ⌜ p ≡ positionAfter r n ⌝ }
-{
-    if n == 0 {
-        return 0;
-    }
-    ((n - 1) % (r as u64)) as usize + 1
-}
-
-// The number of the chunk in hand after n bytes.
-fn index_after(n: u64) -> u64
-    ensures { λ i. ⌜ i ≡ indexAfter chunk n ⌝ }
-{
-    if n == 0 {
-        return 0;
-    }
-    (n - 1) / (tree::CHUNK as u64)
-}
-
-// The final node's position due after n bytes of S.
-fn node_due(rate: usize, chaining: usize, n: u64) -> usize
-    requires { ⌜ (0 < rate) × (chaining ≤ 64) × (n ≤ messageLimit + customizationLimit) ⌝ }
-    ensures { λ p. ⌜ p ≡ finalDue rate chaining n ⌝ }
-{
-    let index = index_after(n);
-    if index == 0 {
-        return position_after(rate, position_after(tree::CHUNK, n) as u64);
-    }
-    position_after(
-        rate,
-        tree::CHUNK as u64 + 8 + (index - 1) * (chaining as u64),
-    )
-}
-
-// The leaf's.
-fn leaf_due(rate: usize, n: u64) -> usize
-    requires { ⌜ 0 < rate ⌝ }
-    ensures { λ p. ⌜ p ≡ leafDue rate n ⌝ }
-{
-    if index_after(n) == 0 {
-        return 0;
-    }
-    position_after(rate, position_after(tree::CHUNK, n) as u64)
-}
-
-// The most customization bytes of a run in this phase.
-fn customized_most(phase: u8) -> u64
-    ensures { λ r. ⌜ r ≡ cond (eqb phase 0) 0 customizationLimit ⌝ }
-{
-    if phase == ABSORBING {
-        return 0;
-    }
-    CUSTOMIZATION_LIMIT
-}
-
-// Whether a run reached from a fresh one has this phase, these totals and these positions.
-fn is_reachable(rate: usize, chaining: usize, at: Progress) -> bool
-    requires { ⌜ (0 < rate) × (chaining ≤ 64) ⌝ }
-    ensures { λ r. ⌜ r ≡ reachable rate chaining (at .node) (at .leaf) (at .phase) (at .absorbed) (at .customized) (at .squeezed) ⌝ }
-{
-    if MESSAGE_LIMIT < at.absorbed {
-        return false;
-    }
-    if customized_most(at.phase) < at.customized {
-        return false;
-    }
-    if at.phase == SQUEEZING {
-        if OUTPUT_LIMIT < at.squeezed {
-            return false;
-        }
-        if at.node != position_after(rate, at.squeezed) {
-            return false;
-        }
-        return at.leaf == 0;
-    }
-    if CUSTOMIZING < at.phase {
-        return false;
-    }
-    if at.squeezed != 0 {
-        return false;
-    }
-    let total = at.absorbed + at.customized;
-    if at.node != node_due(rate, chaining, total) {
-        return false;
-    }
-    at.leaf == leaf_due(rate, total)
-}
+pub(crate) const CUSTOMIZING: u8 = 2;
 
 pub(crate) fn fresh() -> Run
     ensures { λ r. ⌜ ((rate chaining : ℕ) → r ≡ freshOf rate chaining) ⌝ }
@@ -131,6 +42,7 @@ pub(crate) fn fresh() -> Run
         absorbed: 0,
         customized: 0,
         squeezed: 0,
+        permutations: 0,
     }
 }
 
@@ -145,6 +57,7 @@ pub(crate) fn progress(run: Run) -> Progress
         absorbed: run.absorbed,
         customized: run.customized,
         squeezed: run.squeezed,
+        permutations: run.permutations,
     }
 }
 
@@ -163,6 +76,7 @@ pub(crate) fn run_with(node: State, leaf: State, at: Progress) -> Run
         absorbed: at.absorbed,
         customized: at.customized,
         squeezed: at.squeezed,
+        permutations: at.permutations,
     }
 }
 
@@ -181,21 +95,47 @@ fn place(at: Progress) -> Place
     Place {
         node: at.node,
         leaf: at.leaf,
-        index: index_after(total),
-        position: position_after(tree::CHUNK, total),
+        index: totals::index_after(total),
+        position: totals::position_after(tree::CHUNK, total),
     }
 }
 
 // What a closed run holds beside its lanes: nothing is squeezed yet.
-fn closed(at: Progress, customized: u64) -> Progress
-    ensures { λ r. ⌜ r ≡ record { node = 0; leaf = 0; phase = 1; absorbed = at .absorbed; customized = customized; squeezed = at .squeezed } ⌝ }
+fn closed(rate: usize, chaining: usize, at: Progress, customized: u64) -> Progress
+    requires { ⌜ (0 < rate) × (chaining ≤ 64) × (at .absorbed ≤ messageLimit) × (customized ≤ customizationLimit) × (at .squeezed ≤ outputLimit) ⌝ }
+    ensures { λ r. ⌜ r ≡ record { node = 0; leaf = 0; phase = 1; absorbed = at .absorbed; customized = customized; squeezed = at .squeezed; permutations = closedKt rate chaining (at .absorbed + customized) customized (at .squeezed) } ⌝ }
 {
+    let total = at.absorbed + customized;
     let mut next = at;
     next.node = 0;
     next.leaf = 0;
     next.phase = SQUEEZING;
     next.customized = customized;
+    next.permutations = totals::closed_kt(rate, chaining, total, customized, at.squeezed);
     next
+}
+
+// The position of the node that the chunk in hand goes into.
+fn in_hand(at: Place) -> usize
+    ensures { λ r. ⌜ r ≡ cond (eqb (at .index) 0) (at .node) (at .leaf) ⌝ }
+{
+    if at.index == 0 {
+        return at.node;
+    }
+    at.leaf
+}
+
+// The permutations after so many more bytes of S in an open run: as many as before where they fit the block and the chunk in hand.
+fn count_after(rate: usize, chaining: usize, at: Progress, from: Place, more: usize) -> u64
+    requires { ⌜ (0 < rate) × (chaining ≤ 64) × (openDue rate chaining at ≡ true) × (from ≡ placeOf at) × (at .absorbed + at .customized + more ≤ messageLimit + customizationLimit) ⌝ }
+    ensures { λ r. ⌜ r ≡ openKt rate chaining (at .absorbed + at .customized + more) ⌝ }
+{
+    if more <= rate - in_hand(from) {
+        if more <= tree::CHUNK - from.position {
+            return at.permutations;
+        }
+    }
+    totals::open_kt(rate, chaining, at.absorbed + at.customized + more as u64)
 }
 
 pub(crate) fn absorb(
@@ -209,8 +149,8 @@ pub(crate) fn absorb(
     requires { ⌜ (0 < rate) × (rate ≤ 200) × (chaining ≤ 64) ⌝ }
     ensures { λ r. ⌜ answered r (now (node .exit)) (now (leaf .exit)) ≡ answerOf rate chaining (runWith (now (node .entry)) (now (leaf .entry)) at) (Call.absorb (now (piece .entry))) ⌝ }
 {
-    if !is_reachable(rate, chaining, at) {
-        return refused(status::UNREACHABLE, at);
+    if !reached::is_open(rate, chaining, at) {
+        return refused(reached::not_open(rate, chaining, at), at);
     }
     if at.phase != ABSORBING {
         return refused(status::WRONG_PHASE, at);
@@ -219,11 +159,14 @@ pub(crate) fn absorb(
     if MESSAGE_LIMIT < total {
         return refused(status::INPUT_TOO_LONG, at);
     }
-    let after = tree::absorb(rate, chaining, node, leaf, place(at), piece);
+    let from = place(at);
+    let counted = count_after(rate, chaining, at, from, piece.len());
+    let after = tree::absorb(rate, chaining, node, leaf, from, piece);
     let mut next = at;
     next.node = after.node;
     next.leaf = after.leaf;
     next.absorbed = total;
+    next.permutations = counted;
     Moved {
         at: next,
         status: status::DONE,
@@ -241,22 +184,22 @@ pub(crate) fn customize(
     requires { ⌜ (0 < rate) × (rate ≤ 200) × (chaining ≤ 64) ⌝ }
     ensures { λ r. ⌜ answered r (now (node .exit)) (now (leaf .exit)) ≡ answerOf rate chaining (runWith (now (node .entry)) (now (leaf .entry)) at) (Call.customize (now (piece .entry))) ⌝ }
 {
-    if !is_reachable(rate, chaining, at) {
-        return refused(status::UNREACHABLE, at);
-    }
-    if at.phase == SQUEEZING {
-        return refused(status::WRONG_PHASE, at);
+    if !reached::is_open(rate, chaining, at) {
+        return refused(reached::not_open(rate, chaining, at), at);
     }
     let total = at.customized + piece.len() as u64;
     if CUSTOMIZATION_LIMIT < total {
         return refused(status::CUSTOMIZATION_TOO_LONG, at);
     }
-    let after = tree::absorb(rate, chaining, node, leaf, place(at), piece);
+    let from = place(at);
+    let counted = count_after(rate, chaining, at, from, piece.len());
+    let after = tree::absorb(rate, chaining, node, leaf, from, piece);
     let mut next = at;
     next.node = after.node;
     next.leaf = after.leaf;
     next.phase = CUSTOMIZING;
     next.customized = total;
+    next.permutations = counted;
     Moved {
         at: next,
         status: status::DONE,
@@ -274,8 +217,8 @@ pub(crate) fn finalize(
     requires { ⌜ (0 < rate) × (rate ≤ 200) × (chaining ≤ 64) ⌝ }
     ensures { λ r. ⌜ answered r (now (node .exit)) (now (leaf .exit)) ≡ answerOf rate chaining (runWith (now (node .entry)) (now (leaf .entry)) at) (Call.finalize (now (customization .entry))) ⌝ }
 {
-    if !is_reachable(rate, chaining, at) {
-        return refused(status::UNREACHABLE, at);
+    if !reached::is_open(rate, chaining, at) {
+        return refused(reached::not_open(rate, chaining, at), at);
     }
     if at.phase != ABSORBING {
         return refused(status::WRONG_PHASE, at);
@@ -287,7 +230,7 @@ pub(crate) fn finalize(
     let fresh = [0u64; 25];
     *leaf = fresh;
     Moved {
-        at: closed(at, customization.len() as u64),
+        at: closed(rate, chaining, at, customization.len() as u64),
         status: status::DONE,
     }
 }
@@ -302,8 +245,8 @@ pub(crate) fn finish(
     requires { ⌜ (0 < rate) × (rate ≤ 200) × (chaining ≤ 64) ⌝ }
     ensures { λ r. ⌜ answered r (now (node .exit)) (now (leaf .exit)) ≡ answerOf rate chaining (runWith (now (node .entry)) (now (leaf .entry)) at) Call.finish ⌝ }
 {
-    if !is_reachable(rate, chaining, at) {
-        return refused(status::UNREACHABLE, at);
+    if !reached::is_open(rate, chaining, at) {
+        return refused(reached::not_open(rate, chaining, at), at);
     }
     if at.phase != CUSTOMIZING {
         return refused(status::WRONG_PHASE, at);
@@ -312,7 +255,7 @@ pub(crate) fn finish(
     let fresh = [0u64; 25];
     *leaf = fresh;
     Moved {
-        at: closed(at, at.customized),
+        at: closed(rate, chaining, at, at.customized),
         status: status::DONE,
     }
 }
@@ -329,20 +272,25 @@ pub(crate) fn squeeze(
     ensures { λ r. ⌜ ((leaf : List ℕ) → answered r (now (node .exit)) leaf ≡ answerOf rate chaining (runWith (now (node .entry)) leaf at) (Call.squeeze (length (now (out .entry))))) ⌝ }
     ensures { λ r. ⌜ ((leaf : List ℕ) → now (out .exit) ≡ outputOf rate chaining (runWith (now (node .entry)) leaf at) (now (out .entry))) ⌝ }
 {
-    if !is_reachable(rate, chaining, at) {
-        return refused(status::UNREACHABLE, at);
-    }
-    if at.phase != SQUEEZING {
-        return refused(status::WRONG_PHASE, at);
+    if !reached::is_closed(rate, chaining, at) {
+        return refused(reached::not_closed(rate, chaining, at), at);
     }
     let total = at.squeezed + out.len() as u64;
     if OUTPUT_LIMIT < total {
         return refused(status::OUTPUT_TOO_LONG, at);
     }
+    let counted = totals::closed_kt(
+        rate,
+        chaining,
+        at.absorbed + at.customized,
+        at.customized,
+        total,
+    );
     let given = sponge::squeeze(node, at.node, rate, turboshake::ROUNDS, out);
     let mut next = at;
     next.node = given.position;
     next.squeezed = total;
+    next.permutations = counted;
     Moved {
         at: next,
         status: given.status,

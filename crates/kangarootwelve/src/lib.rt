@@ -1,15 +1,17 @@
 // KT128 and KT256: draft-irtf-cfrg-kangarootwelve-16, section 3, in one go and in pieces. HopMAC128 and HopMAC256, section 4, in one go,
 // and their tag check.
 //
-// A type for each strength, whose calls stand in `strength128` and `strength256`; what they share stands in `by_value`, `calls`, `tree`, `one_go`, `encode` and `hopmac`,
+// A type for each strength, whose calls stand in `strength128` and `strength256`; what they share stands in `by_value`, `calls`, `reached`, `totals`, `tree`, `one_go`, `encode` and `hopmac`,
 // over the rate, the length of a chaining value and that of an inner digest.
 mod by_value;
 mod calls;
 mod encode;
 mod hopmac;
 mod one_go;
+mod reached;
 mod strength128;
 mod strength256;
+mod totals;
 mod tree;
 
 ghost use mathlib.Core.Path.{_≡_};
@@ -30,7 +32,7 @@ pub struct State {
 }
 
 // A run: the state of the final node and of the leaf in hand, the phase (0 absorbing, 1 squeezing, 2 customizing), document 01's bytes fed,
-// which are M's alone, request Q-2's customization bytes, and document 01's bytes read.
+// which are M's alone, request Q-2's customization bytes, document 01's bytes read, and request Q-10's permutations of the definition so far.
 pub struct Run {
     pub node: State,
     pub leaf: State,
@@ -38,9 +40,10 @@ pub struct Run {
     pub absorbed: u64,
     pub customized: u64,
     pub squeezed: u64,
+    pub permutations: u64,
 }
 
-// What a run holds beside its lanes: the two positions, the phase and the totals.
+// What a run holds beside its lanes: the two positions, the phase, the totals and the permutations.
 struct Progress {
     node: usize,
     leaf: usize,
@@ -48,6 +51,7 @@ struct Progress {
     absorbed: u64,
     customized: u64,
     squeezed: u64,
+    permutations: u64,
 }
 
 // What a call leaves of a run beside its lanes, and its status.

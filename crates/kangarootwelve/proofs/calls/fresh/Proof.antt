@@ -8,7 +8,7 @@ use Rattle.kangarootwelve.proofs.calls.fresh.Tie as tie
 
 returns : tie.Need-returns
 unfolding freshOf machine
-returns c rate chaining = ap (λ (l : List ℕ). record { node = record { lanes = l; position = 0 }; leaf = record { lanes = l; position = 0 }; phase = 0; absorbed = 0; customized = 0; squeezed = 0 }) (sym zero-lanes)
+returns c rate chaining = ap (λ (l : List ℕ). record { node = record { lanes = l; position = 0 }; leaf = record { lanes = l; position = 0 }; phase = 0; absorbed = 0; customized = 0; squeezed = 0; permutations = 0 }) (sym zero-lanes)
 
 pub fresh-spec : {M : Type 1} → statement M
 fresh-spec = tie.close (tie.spec returns)

@@ -3,8 +3,8 @@ use native.Mathlib.Nat.{mod-lt}
 use native.Mathlib.Omega.{arith}
 use Rattle.kangarootwelve.proofs.Cases.{position-suc}
 use borrow.Author.Needs.{needs}
-use Rattle.kangarootwelve.proofs.calls.position_after.Statement.{statement}
-use Rattle.kangarootwelve.proofs.calls.position_after.Tie as tie
+use Rattle.kangarootwelve.proofs.totals.position_after.Statement.{statement}
+use Rattle.kangarootwelve.proofs.totals.position_after.Tie as tie
 
 returns : tie.Need-returns
 returns c = search needs

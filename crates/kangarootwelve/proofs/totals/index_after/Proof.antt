@@ -1,8 +1,8 @@
 use Rattle.kangarootwelve.proofs.Cases.{index-suc}
 use Rattle.kangarootwelve.proofs.Published.{chunk-is}
 use borrow.Author.Needs.{needs}
-use Rattle.kangarootwelve.proofs.calls.index_after.Statement.{statement}
-use Rattle.kangarootwelve.proofs.calls.index_after.Tie as tie
+use Rattle.kangarootwelve.proofs.totals.index_after.Statement.{statement}
+use Rattle.kangarootwelve.proofs.totals.index_after.Tie as tie
 
 returns : tie.Need-returns
 returns c = search needs

@@ -1,6 +1,6 @@
 use borrow.Author.Tests.{eq-eqb, ne-eqb}
-use Rattle.kangarootwelve.proofs.calls.customized_most.Statement.{statement}
-use Rattle.kangarootwelve.proofs.calls.customized_most.Tie as tie
+use Rattle.kangarootwelve.proofs.reached.customized_most.Statement.{statement}
+use Rattle.kangarootwelve.proofs.reached.customized_most.Tie as tie
 
 returns : tie.Need-returns
 returns c = rw (eq-eqb _ _ (c .if1 .taken))

@@ -1,0 +1,138 @@
+-- The claims of specs/Claims.antt: those of the machine, on the code's own runs.
+-- Assumes nothing.
+use mathlib.Core.Path.{_≡_, refl, sym, ap, _∙_}
+use mathlib.Core.List.{List, [], _∷_, _++_}
+use Prim.Native.Nat.{ℕ, zero, suc, _+_, _<_}
+use native.Mathlib.Nat.{add-zero, zero-add}
+use native.Mathlib.Omega.{arith}
+use lib.ListN.{length, length-append}
+use Rattle.keccak.specs.Permutation.{permuted}
+use Rattle.sponge.specs.Status.{unreachable}
+use Rattle.sponge.specs.Waiting.{At, positionAfter}
+use Rattle.sponge.specs.Count.{Counted, spongeOf}
+use Rattle.sponge.specs.Model.{padWith}
+use Rattle.sponge.specs.Transcript.{Call, Phase, Phase.absorbing, Phase.customizing, Phase.squeezing, Transcript}
+use Rattle.sponge.specs.Runs.{freshRun, perform}
+use Rattle.sponge.specs.Streaming as streaming
+use Rattle.sponge.specs.Streaming.{History}
+use Rattle.sponge.proofs.Position.{After}
+use Rattle.sponge.proofs.Count.{added, after-counted}
+use Rattle.sponge.proofs.Corollaries.{history-held}
+use Rattle.sponge.proofs.Streaming.{told-fits}
+use Rattle.sponge.proofs.Reachable as generic
+use Rattle.kangarootwelve.specs.Published.{chunk, lengthEncode}
+use Rattle.kangarootwelve.specs.Transcript.{customizedOf, Callable, rules}
+use Rattle.kangarootwelve.specs.Tree.{Tree, absorbTreeOf, closeToOf, finalizedOf}
+use Rattle.kangarootwelve.specs.Count.{lanesCounted, CountedTree, permutationsOf, openKt, closedKt}
+use Rattle.kangarootwelve.specs.Model.{machine, seen, held, freshOf, answerOf, replyOf}
+use Rattle.kangarootwelve.specs.Claims.{freshCount, squeezedTree, told, ran, definedAt, defined, due, Counts, Reached, Five}
+use Rattle.kangarootwelve.specs.declared.Run.{Run}
+use Rattle.kangarootwelve.proofs.Count.{countTree, countFinalize, Told, counted-told, finish-told, squeezed-told}
+use Rattle.kangarootwelve.proofs.CountedTree.{atMap, both, both-absorbed, finalized-number}
+use Rattle.kangarootwelve.proofs.Counting.{numberAt}
+use Rattle.kangarootwelve.proofs.Laws.{positions, first-is, second-is, third-is, freshNodes, fresh-due, told-at, absorb-due, laws}
+use Rattle.kangarootwelve.proofs.Streaming.{corollaries, streaming-code, count-told}
+
+module _ (rate chaining : ℕ) (pos : 0 < rate) where
+  -- ---- the permutations
+
+  -- of M alone, or of M and C in the customization phase
+  opened : (s : List ℕ) → permutationsOf (absorbTreeOf lanesCounted rate chaining freshCount s .value) ≡ openKt rate chaining (length s)
+  opened s =
+      third-is (absorb-due rate chaining pos 0 freshNodes s 0 (fresh-due rate chaining pos)) ∙ ap (openKt rate chaining) (zero-add (length s))
+
+  closed-at-0 : (k : ℕ) (f l : Counted) → closeToOf lanesCounted rate chaining k f l .position ≡ 0
+  unfolding padWith
+  closed-at-0 zero f l = refl
+  closed-at-0 (suc k) f l = refl
+
+  -- the close after M and C
+  module _ (f c : List ℕ) where
+    abbrev closed : CountedTree
+    closed = finalizedOf lanesCounted rate chaining (absorbTreeOf lanesCounted rate chaining freshCount f) c
+
+    closed-number : permutationsOf closed ≡ closedKt rate chaining (length f + length c) (length c) 0
+    closed-number =
+        let t : At (Tree × ℕ) = countTree rate chaining (numberAt 0 freshNodes) f in
+        let e : After chunk (Told rate chaining pos) (length f) t = rw zero-add at (counted-told rate chaining pos 0 (numberAt 0 freshNodes) f (told-at rate chaining pos 0 freshNodes (fresh-due rate chaining pos))) in
+        finalized-number rate chaining (absorbTreeOf lanesCounted rate chaining freshCount f) c
+        ∙ ap (λ (u : At (Tree × ℕ)). countFinalize rate chaining u c) (both-absorbed rate chaining freshCount f)
+        ∙ finish-told rate chaining pos (length f + length c) (length c) (countTree rate chaining t c) (counted-told rate chaining pos (length f) t c e)
+
+    read : (n : ℕ) → permutationsOf (squeezedTree rate n closed) ≡ closedKt rate chaining (length f + length c) (length c) n
+    read n =
+        let s : Counted = closed .final in
+        let t : CountedTree = absorbTreeOf lanesCounted rate chaining (absorbTreeOf lanesCounted rate chaining (absorbTreeOf lanesCounted rate chaining freshCount f) c) (lengthEncode (length c)) .value in
+        let a = ap (λ (u : Counted). u .value .1) (after-counted permuted rate n (spongeOf s) (s .value .1)) in
+        let z : added rate (s .position) n ≡ added rate (positionAfter rate 0) n = ap (λ (p : ℕ). added rate p n) (closed-at-0 (t .index) (t .final) (t .leaf)) in
+        let e : closedKt rate chaining (length f + length c) (length c) 0 + added rate (positionAfter rate 0) n ≡ closedKt rate chaining (length f + length c) (length c) n =
+        squeezed-told rate chaining pos (length f + length c) (length c) 0 n ∙ ap (closedKt rate chaining (length f + length c) (length c)) (zero-add n) in
+        omega (arith, a, z, e, closed-number)
+
+  defined-by : (f : List ℕ) (h : Phase (List ℕ)) (n : ℕ) → defined rate chaining (record { absorbed = f; phase = h; squeezed = n }) ≡ due rate chaining (record { absorbed = f; phase = h; squeezed = n })
+  defined-by f absorbing n = opened f ∙ ap (openKt rate chaining) (sym (add-zero (length f)))
+  defined-by f (customizing c) n = opened (f ++ c) ∙ ap (openKt rate chaining) (length-append f c)
+  defined-by f (squeezing c) n = read f c n
+
+  pub defined-due : (t : Transcript (List ℕ)) → defined rate chaining t ≡ due rate chaining t
+  defined-due t = defined-by (t .absorbed) (t .phase) (t .squeezed)
+
+  totals : (cs : List (Call (List ℕ))) → ran rate chaining cs .left .permutations ≡ due rate chaining (told rate chaining cs .left)
+  totals cs =
+      ap (λ (h : History Run). h .left .permutations) (streaming-code rate chaining pos cs)
+      ∙ count-told rate chaining pos (told rate chaining cs .left) (told-fits (rules rate chaining) (machine rate chaining) (laws rate chaining pos) cs)
+
+  pub counts : Counts rate chaining
+  counts = record {
+    definition = λ cs. totals cs ∙ sym (defined-due (told rate chaining cs .left));
+    totals = totals;
+  }
+
+  -- ---- status 5
+
+  left-is : (cs : List (Call (List ℕ))) → ran rate chaining cs .left ≡ held (streaming.ran (rules rate chaining) (machine rate chaining) cs .left)
+  unfolding freshOf replyOf answerOf
+  left-is cs =
+      ap (λ (h : History Run). h .left)
+      (history-held (perform (rules rate chaining) (machine rate chaining)) (replyOf rate chaining) held (λ r c. refl) cs (freshRun (rules rate chaining) (machine rate chaining)))
+
+  to-machine : (r : Run) → Reached rate chaining r → generic.Reached (rules rate chaining) (machine rate chaining) positions Callable (seen r)
+  unfolding machine
+  to-machine r g =
+      let cs : List (Call (List ℕ)) = g .calls in
+      let node = sym (ap (λ (q : Run). q .node .position) (left-is cs)) ∙ g .node-is in
+      let leaf = sym (ap (λ (q : Run). q .leaf .position) (left-is cs)) ∙ g .leaf-is in
+      let permutations = sym (ap (λ (q : Run). q .permutations) (left-is cs)) ∙ g .permutations-is in
+      record {
+        calls = cs;
+        calls-can = g .callable;
+        phase-is = sym (ap (λ (q : Run). q .phase) (left-is cs)) ∙ g .phase-is;
+        absorbed-is = sym (ap (λ (q : Run). q .absorbed) (left-is cs)) ∙ g .absorbed-is;
+        customized-is = sym (ap (λ (q : Run). q .customized) (left-is cs)) ∙ g .customized-is;
+        squeezed-is = sym (ap (λ (q : Run). q .squeezed) (left-is cs)) ∙ g .squeezed-is;
+        positions-are = λ i. node i ∷ leaf i ∷ permutations i ∷ [];
+      }
+
+  to-code : (r : Run) → generic.Reached (rules rate chaining) (machine rate chaining) positions Callable (seen r) → Reached rate chaining r
+  unfolding machine
+  to-code r g =
+      let cs : List (Call (List ℕ)) = g .calls in
+      record {
+        calls = cs;
+        callable = g .calls-can;
+        phase-is = ap (λ (q : Run). q .phase) (left-is cs) ∙ g .phase-is;
+        absorbed-is = ap (λ (q : Run). q .absorbed) (left-is cs) ∙ g .absorbed-is;
+        customized-is = ap (λ (q : Run). q .customized) (left-is cs) ∙ g .customized-is;
+        squeezed-is = ap (λ (q : Run). q .squeezed) (left-is cs) ∙ g .squeezed-is;
+        node-is = ap (λ (q : Run). q .node .position) (left-is cs) ∙ first-is (g .positions-are);
+        leaf-is = ap (λ (q : Run). q .leaf .position) (left-is cs) ∙ second-is (g .positions-are);
+        permutations-is = ap (λ (q : Run). q .permutations) (left-is cs) ∙ third-is (g .positions-are);
+      }
+
+  pub five : Five rate chaining
+  unfolding answerOf
+  five = record {
+    five-unreached = λ r c e g. corollaries rate chaining pos .five .five-unreached (seen r) c e (to-machine r g);
+    unreached-five = λ r c h. corollaries rate chaining pos .five .unreached-five (seen r) c (λ g. h (to-code r g));
+    other-reached = λ r c h. to-code r (corollaries rate chaining pos .five .other-reached (seen r) c h);
+  }
