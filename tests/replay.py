@@ -1,7 +1,7 @@
 """Writes lists of calls for the program `replay` and the lines that it must answer; runs it and compares.
 
 A record is one byte op, four bytes n, and n bytes of payload (none for R), numbers most significant first. The program does one call
-for each and writes one line. What the line must say is for transcript.py and one_go.py to decide.
+for each and writes one line. What the line must say is for transcript.py, model_run.py and one_go.py to decide.
 """
 import subprocess
 import tempfile
@@ -9,6 +9,7 @@ import unittest
 from collections import Counter
 from pathlib import Path
 
+import model_run
 import one_go
 import transcript
 from sponge_functions import FIPS202, SPONGE, TURBOSHAKE
@@ -120,7 +121,7 @@ class Calls:
 
     def fresh(self, function):
         self.function = function
-        self.book, self.run = transcript.book_of(function), transcript.run_of(function)
+        self.book, self.run = transcript.book_of(function), model_run.run_of(function)
         self.add(f"N {function}", record("N", bytes([function])), "fresh")
 
     def call(self, what, data, *wanted, function=None):

@@ -1,7 +1,8 @@
 """Random lists of calls on runs of the functions that are the sponge, and what the tests of such runs share."""
+from model_run import position_after
 from replay import ABSORBED, LANES, PHASE, POSITION, SQUEEZED
 from sponge_functions import SPONGE, TURBOSHAKE
-from transcript import ABSORBING, Limits, position_after, read_limit
+from transcript import ABSORBING, Limits, read_limit
 
 LIMIT = Limits.ABSORB_LIMIT
 BIG = (1 << 64) - 1

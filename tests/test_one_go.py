@@ -1,11 +1,11 @@
 """The calls in one go: which refusal wins, both sides of each limit, and the same bytes as a run's."""
 import unittest
 
+import model_run
 import one_go
 import reference
-import transcript
 from sponge_functions import FIPS202, SHA3, SPONGE, TURBOSHAKE
-from transcript import KT, KtRun
+from transcript import KT
 
 
 class OneGo(unittest.TestCase):
@@ -83,7 +83,7 @@ class OneGo(unittest.TestCase):
         for number, function in SPONGE.items():
             closing = 0x1F if number in TURBOSHAKE else None
             for size in (0, 1, function.rate - 1, function.rate, function.rate + 1, 500):
-                run = transcript.run_of(number)
+                run = model_run.run_of(number)
                 run.absorb(reference.ptn(size))
                 run.finalize(closing)
                 asked = function.digest or 300
@@ -92,7 +92,7 @@ class OneGo(unittest.TestCase):
     def test_same_as_the_kt_run(self):
         for function, rate in KT.items():
             for size, custom in ((0, 0), (8191, 0), (8192, 0), (8192, 8189), (8192, 8190), (100, 20_000)):
-                run = KtRun(rate)
+                run = model_run.KtRun(rate)
                 run.absorb(reference.ptn(size))
                 run.finalize(reference.ptn(custom))
                 self.assertEqual(one_go.kt(rate, reference.ptn(size), reference.ptn(custom), 300), run.squeeze(300), function)

@@ -9,10 +9,11 @@ import unittest
 
 import reference
 import sponge_lists
+from model_run import position_after
 from replay import ABSORBED, MOST, PHASE, POSITION, SEED, SQUEEZED, Calls, Held
 from sponge_functions import SHA3, SPONGE, TURBOSHAKE
 from sponge_lists import BIG, LIMIT
-from transcript import ABSORBING, FINALIZED, Limits, position_after, read_limit
+from transcript import ABSORBING, FINALIZED, Limits, read_limit
 
 CALLS = 120_000  # A, F, R, T, B and P together
 SQUEEZE_LIMIT = Limits.SQUEEZE_LIMIT

@@ -1,6 +1,7 @@
 """FIPS 202's functions by the book and by the run: request Q-5's numbers, the read limit of SHA3, and the order of the refusals."""
 import unittest
 
+import model_run
 import reference
 import transcript
 from sponge_functions import FIPS202, SHA3, SHAKE, TURBOSHAKE
@@ -13,7 +14,7 @@ MESSAGE = reference.ptn(300)
 
 
 def both(number):
-    return transcript.book_of(number), transcript.run_of(number)
+    return transcript.book_of(number), model_run.run_of(number)
 
 
 def whole(number, size):
@@ -71,7 +72,7 @@ class Reads(unittest.TestCase):
         """A run that is closed at once has the byte and 80 in its first block, and in one byte where the message lacks one of a block."""
         for number, function in FIPS202.items():
             for size in (0, function.rate - 1):
-                run = transcript.run_of(number)
+                run = model_run.run_of(number)
                 run.absorb(bytes(size))
                 block = bytearray(200)
                 block[size] ^= 0x06 if number in SHA3 else 0x1F
@@ -91,14 +92,14 @@ class Refusals(unittest.TestCase):
     def test_limits(self):
         """Of the message, the same for all; of what is read, the function's own, with 5 past it and before every other number."""
         for number, limit in READ_LIMITS.items():
-            run = transcript.run_of(number)
+            run = model_run.run_of(number)
             most = Limits.ABSORB_LIMIT
-            run.absorbed, run.node.position = most - 1, transcript.position_after(run.rate, most - 1)
+            run.absorbed, run.node.position = most - 1, model_run.position_after(run.rate, most - 1)
             self.assertEqual([run.absorb(b"ab"), run.absorb(b"a"), run.absorb(b"a"), run.absorb(b""), run.finalize()], [2, 0, 2, 0, 0])
-            run.squeezed, run.node.position = limit - 1, transcript.position_after(run.rate, limit - 1)
+            run.squeezed, run.node.position = limit - 1, model_run.position_after(run.rate, limit - 1)
             self.assertEqual([run.squeeze(size)[0] for size in (2, 1, 1, 0)], [6, 0, 6, 0])
             for squeezed in (limit + 1, limit + 1 + run.rate):
-                run.squeezed, run.node.position = squeezed, transcript.position_after(run.rate, squeezed)
+                run.squeezed, run.node.position = squeezed, model_run.position_after(run.rate, squeezed)
                 self.assertEqual([run.squeeze(0), run.squeeze(1)], [(5, None), (5, None)])
                 self.assertEqual([run.absorb(b""), run.absorb(bytes(10)), run.finalize()], [5, 5, 5])
 
@@ -109,7 +110,7 @@ class Refusals(unittest.TestCase):
                 *((ABSORBING, 5, 5, 5), (2, 5, 0, 5), (ABSORBING, 5, 0, 6), (FINALIZED, 5, 7, 5), (FINALIZED, 7, 5, 6)),
                 *((ABSORBING, function.rate, 0, 0), (ABSORBING, function.rate + 1, 0, function.rate + 1)),
             ):
-                run = transcript.run_of(number)
+                run = model_run.run_of(number)
                 run.phase, run.absorbed, run.squeezed, run.node.position = phase, absorbed, squeezed, position
                 self.assertEqual([run.absorb(b""), run.finalize(), run.squeeze(0)], [5, 5, (5, None)], (phase, absorbed))
 
