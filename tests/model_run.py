@@ -4,6 +4,7 @@
 of every function that is the sponge alone (sponge_functions.py). Written from documents 01 and 02 and the draft, never from the Rattle
 sources.
 """
+import permutation_formula
 import reference
 from sponge_functions import SPONGE
 from transcript import ABSORBING, CHAINING, CUSTOMIZING, DAY, DONE, EVENT_TOO_LONG, FINALIZED, KT, NODES, NOT_REACHED, TOO_LONG, TOO_MUCH
@@ -19,18 +20,29 @@ def position_after(rate, total):
     return (total - 1) % rate + 1 if total else 0
 
 
+class Count:
+    """The permutations of a run, which all its sponges add to."""
+
+    permutations = 0
+
+
 class Sponge:
     """25 lanes and a position."""
 
-    def __init__(self, rate, rounds):
+    def __init__(self, rate, rounds, count):
         self.rate = rate
         self.rounds = rounds
+        self.count = count
         self.position = 0
         self.lanes = [0] * 25
 
     def permute(self):
-        self.lanes = list(reference.permuted(tuple(self.lanes), self.rounds))
+        self.lanes = self.permuted_lanes()
         self.position = 0
+        self.count.permutations += 1
+
+    def permuted_lanes(self):
+        return list(reference.permuted(tuple(self.lanes), self.rounds))
 
     def mix(self, start, part):
         """XORs bytes into the state from byte `start` on."""
@@ -77,10 +89,19 @@ class Run(Limits):
         self.phase = ABSORBING
         self.absorbed = 0
         self.squeezed = 0
+        self.count = Count()
         self.node = self.fresh_sponge()  # the final node of a KT run; the only sponge of another
 
     def fresh_sponge(self):
-        return self.SPONGE(self.rate, self.function.rounds)
+        return self.SPONGE(self.rate, self.function.rounds, self.count)
+
+    @property
+    def permutations(self):
+        return self.count.permutations
+
+    @permutations.setter
+    def permutations(self, number):
+        self.count.permutations = number
 
     def totals(self):
         return self.absorbed, self.squeezed
@@ -95,11 +116,19 @@ class Run(Limits):
         """The position of each sponge of a run that has this phase and these totals."""
         return (position_after(self.rate, self.absorbed if self.phase == ABSORBING else self.squeezed),)
 
+    def permutations_due(self):
+        """The permutations of such a run: by the formula, so that what was counted is held to it."""
+        if self.phase == ABSORBING:
+            return permutation_formula.sponge_open(self.rate, self.absorbed)
+        return permutation_formula.sponge_closed(self.rate, self.absorbed, self.squeezed)
+
     def is_reached(self):
-        """Whether calls from a fresh run reach this phase, these totals and positions together. The lanes are not looked at."""
+        """Whether calls from a fresh run reach this phase, these totals, positions and permutations together. The lanes are not looked at."""
         if self.absorbed > self.ABSORB_LIMIT or self.squeezed > read_limit(self.function, self.SQUEEZE_LIMIT):
             return False
         if self.phase not in self.PHASES or (self.phase != FINALIZED and self.squeezed):
+            return False
+        if self.permutations != self.permutations_due():
             return False
         return tuple(sponge.position for sponge in self.sponges()) == self.positions_due()
 
@@ -163,15 +192,26 @@ class KtRun(Run):
     def argument_status(self, custom):
         return custom_status(len(custom), self.CUSTOM_LIMIT)
 
+    def merged(self):
+        """The number of bytes of S so far; once the run is closed, of the whole."""
+        if self.phase == ABSORBING:
+            return self.absorbed
+        return self.absorbed + self.customized + (0 if self.phase == CUSTOMIZING else len(reference.length_encode(self.customized)))
+
     def positions_due(self):
         if self.phase not in (ABSORBING, CUSTOMIZING):
             return position_after(self.rate, self.squeezed), 0
-        merged = self.absorbed + (self.customized if self.phase == CUSTOMIZING else 0)  # the bytes of S so far
+        merged = self.merged()
         if merged <= self.CHUNK:
             return position_after(self.rate, merged), 0
         closed = (merged - 1) // self.CHUNK  # the chunk in hand is closed only when the next one's first byte comes
         node = self.CHUNK + len(FIRST_CHUNK_END) + (closed - 1) * self.chaining
         return position_after(self.rate, node), position_after(self.rate, merged - closed * self.CHUNK)
+
+    def permutations_due(self):
+        if self.phase in (ABSORBING, CUSTOMIZING):
+            return permutation_formula.kt_open(self.rate, self.chaining, self.merged(), self.CHUNK)
+        return permutation_formula.kt_closed(self.rate, self.chaining, self.merged(), self.squeezed, self.CHUNK)
 
     def is_reached(self):
         if self.customized > self.CUSTOM_LIMIT or (self.phase == ABSORBING and self.customized):

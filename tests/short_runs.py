@@ -34,5 +34,5 @@ class ShortDayRun(DayRun, ShortKtRun):
 
 
 def fields(run):
-    """All that a run has: phase, totals, and of each sponge the position and the lanes."""
-    return [run.phase, *run.totals(), *((sponge.position, tuple(sponge.lanes)) for sponge in run.sponges())]
+    """All that a run has: phase, totals, permutations, and of each sponge the position and the lanes."""
+    return [run.phase, *run.totals(), run.permutations, *((sponge.position, tuple(sponge.lanes)) for sponge in run.sponges())]

@@ -10,8 +10,8 @@ from transcript import FINALIZED
 class SmallSponge(Sponge):
     """The lanes play no part."""
 
-    def permute(self):
-        self.position = 0
+    def permuted_lanes(self):
+        return self.lanes
 
 
 class SmallRun(Run):
@@ -25,10 +25,10 @@ class SmallRun(Run):
         super().__init__(self.FUNCTION)
 
     def key(self):
-        return self.phase, *self.totals(), *(sponge.position for sponge in self.sponges())
+        return self.phase, *self.totals(), self.permutations, *(sponge.position for sponge in self.sponges())
 
-    def set(self, phase, absorbed, squeezed, *positions):
-        self.phase, self.absorbed, self.squeezed = phase, absorbed, squeezed
+    def set(self, phase, absorbed, squeezed, permutations=0, *positions):
+        self.phase, self.absorbed, self.squeezed, self.permutations = phase, absorbed, squeezed, permutations
         for sponge, position in zip(self.sponges(), positions):
             sponge.position = position
         return self
@@ -52,9 +52,9 @@ class SmallKtRun(SmallRun, KtRun):
         self.leaf = self.fresh_sponge()
         self.chaining = 3
 
-    def set(self, phase, absorbed, squeezed, customized, *positions):
+    def set(self, phase, absorbed, squeezed, customized, *rest):
         self.customized = customized
-        return super().set(phase, absorbed, squeezed, *positions)
+        return super().set(phase, absorbed, squeezed, *rest)
 
 
 class SmallDayRun(DayRun, SmallKtRun):
@@ -76,12 +76,26 @@ class Reached(unittest.TestCase):
                 left.append(run.key())
         return reached
 
+    def near(self, run, reached, totals, positions):
+        """Each of these phases and totals with the right positions and every count, and with the right count and all of these positions.
+
+        Right are those that calls reach or, where calls reach none, those that the run says are due.
+        """
+        of_totals = {key[: len(totals)]: key[len(totals) :] for key in reached}
+        self.assertEqual(len(of_totals), len(reached), "phase and totals tell the permutations and the positions")
+        for told in itertools.product(*totals):
+            run.set(*told)
+            count, *places = of_totals.get(told) or (run.permutations_due(), *run.positions_due())
+            yield from ((*told, permutations, *places) for permutations in (*range(22), 1 << 32, (1 << 64) - 1))
+            yield from ((*told, count, *others) for others in itertools.product(*positions))
+
     def test_by_every_call_from_a_fresh_run(self):
-        """Visits all that calls reach from a fresh run, then asks is_reached of every phase, total and position near them."""
+        """Visits all that calls reach from a fresh run, then asks is_reached of every phase, total, count and position near them."""
         for kind, close, most in ((SmallRun, ("finalize", 0x1F), 17), (SmallDigestRun, ("finalize",), 5)):
             reached = self.reached_from_fresh(kind, [close])
-            near = itertools.product(range(4), range(24), range(20), range(11))
-            self.assertEqual({key for key in near if kind().set(*key).is_reached()}, reached)
+            run = kind()
+            near = self.near(run, reached, (range(4), range(24), range(20)), (range(11),))
+            self.assertEqual({key for key in near if run.set(*key).is_reached()}, reached)
             self.assertEqual(len(reached), 21 + 21 * (most + 1))
 
     def test_by_every_kt_call(self):
@@ -91,7 +105,7 @@ class Reached(unittest.TestCase):
         for kind in (SmallKtRun, SmallDayRun):
             reached = self.reached_from_fresh(kind, [*pieces, ("finish",)])
             run = kind()
-            near = itertools.product(range(4), range(16), range(8), range(15), range(6), range(6))
+            near = self.near(run, reached, (range(4), range(16), range(8), range(15)), (range(6), range(6)))
             self.assertEqual({key for key in near if run.set(*key).is_reached()}, reached)
             self.assertEqual(len(reached), 15 + 15 * 14 + 15 * 7 * 14)
             closed = {key for key in reached if key[0] == FINALIZED}

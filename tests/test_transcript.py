@@ -11,11 +11,11 @@ from transcript import DAY, KT
 
 class Agreement(unittest.TestCase):
     def both(self, book, run, name, *arguments):
-        """The two say the same and have the same phase and totals; a run that refuses is as it was."""
+        """The two say the same and have the same phase, totals and permutations; a run that refuses is as it was."""
         before = fields(run)
         said, done = getattr(book, name)(*arguments), getattr(run, name)(*arguments)
         self.assertEqual(said, done, (name, arguments))
-        self.assertEqual((book.phase, book.totals()), (run.phase, run.totals()))
+        self.assertEqual((book.phase, book.totals(), book.permutations), (run.phase, run.totals(), run.permutations))
         self.assertTrue(run.is_reached())
         status = said[0] if name == "squeeze" else said
         if status:

@@ -17,6 +17,12 @@ def both(number):
     return transcript.book_of(number), model_run.run_of(number)
 
 
+def fit(run, position=None):
+    """Gives the run the permutations that go with its phase and totals, and the position too where none is given."""
+    run.permutations = run.permutations_due()
+    (run.node.position,) = run.positions_due() if position is None else (position,)
+
+
 def whole(number, size):
     """The first bytes of the second program's digest or output of MESSAGE, by the standard's capacities and suffixes."""
     if number in DIGESTS:
@@ -94,12 +100,15 @@ class Refusals(unittest.TestCase):
         for number, limit in READ_LIMITS.items():
             run = model_run.run_of(number)
             most = Limits.ABSORB_LIMIT
-            run.absorbed, run.node.position = most - 1, model_run.position_after(run.rate, most - 1)
+            run.absorbed = most - 1
+            fit(run)
             self.assertEqual([run.absorb(b"ab"), run.absorb(b"a"), run.absorb(b"a"), run.absorb(b""), run.finalize()], [2, 0, 2, 0, 0])
-            run.squeezed, run.node.position = limit - 1, model_run.position_after(run.rate, limit - 1)
+            run.squeezed = limit - 1
+            fit(run)
             self.assertEqual([run.squeeze(size)[0] for size in (2, 1, 1, 0)], [6, 0, 6, 0])
             for squeezed in (limit + 1, limit + 1 + run.rate):
-                run.squeezed, run.node.position = squeezed, model_run.position_after(run.rate, squeezed)
+                run.squeezed = squeezed
+                fit(run)
                 self.assertEqual([run.squeeze(0), run.squeeze(1)], [(5, None), (5, None)])
                 self.assertEqual([run.absorb(b""), run.absorb(bytes(10)), run.finalize()], [5, 5, 5])
 
@@ -111,7 +120,8 @@ class Refusals(unittest.TestCase):
                 *((ABSORBING, function.rate, 0, 0), (ABSORBING, function.rate + 1, 0, function.rate + 1)),
             ):
                 run = model_run.run_of(number)
-                run.phase, run.absorbed, run.squeezed, run.node.position = phase, absorbed, squeezed, position
+                run.phase, run.absorbed, run.squeezed = phase, absorbed, squeezed
+                fit(run, position)
                 self.assertEqual([run.absorb(b""), run.finalize(), run.squeeze(0)], [5, 5, (5, None)], (phase, absorbed))
 
 

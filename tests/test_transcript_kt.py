@@ -4,9 +4,17 @@ import unittest
 import model_run
 import reference
 import transcript
-from model_run import KtRun, Sponge
+from model_run import Count, KtRun, Sponge
 from short_runs import CUSTOM_LIMIT, ShortDayRun, ShortDayTranscript, ShortKtRun, ShortKtTranscript, fields
 from transcript import CHAINING, KT, Limits
+
+
+def held(sponge):
+    return sponge.position, sponge.lanes
+
+
+def fresh(rate):
+    return Sponge(rate, 12, Count())
 
 
 class Leaf(unittest.TestCase):
@@ -17,18 +25,18 @@ class Leaf(unittest.TestCase):
             run.absorb(reference.ptn(16_384))
             self.assertEqual(run.leaf.position, (8192 - 1) % rate + 1)
             run.absorb(b"\x07")
-            self.assertEqual((run.leaf.position, run.leaf.lanes), (1, [7] + [0] * 24))
+            self.assertEqual(held(run.leaf), (1, [7] + [0] * 24))
             node = reference.ptn(8192) + b"\x03" + bytes(7)
             node += reference.turboshake(rate, reference.ptn(16_384)[8192:], 0x0B, CHAINING[rate])
-            alone = Sponge(rate, 12)
+            alone = fresh(rate)
             alone.absorb(node)
-            self.assertEqual(vars(run.node), vars(alone))
+            self.assertEqual(held(run.node), held(alone))
 
     def test_no_leaf_before_its_first_byte(self):
         for size in (0, 1, 8191, 8192):
             run = KtRun(168)
             run.absorb(reference.ptn(size))
-            self.assertEqual(vars(run.leaf), vars(Sponge(168, 12)))
+            self.assertEqual(held(run.leaf), held(fresh(168)))
             self.assertEqual(run.node.position, model_run.position_after(168, size))
 
     def test_fresh_after_the_finalize(self):
@@ -36,7 +44,7 @@ class Leaf(unittest.TestCase):
             run = KtRun(136)
             run.absorb(reference.ptn(size))
             run.finalize(b"")
-            self.assertEqual(vars(run.leaf), vars(Sponge(136, 12)))
+            self.assertEqual(held(run.leaf), held(fresh(136)))
             self.assertEqual(run.node.position, 0)
 
 
@@ -100,6 +108,7 @@ class Customization(unittest.TestCase):
             run = ShortKtRun(168)
             run.phase, (run.absorbed, run.squeezed, run.customized) = phase, totals
             run.node.position, run.leaf.position = run.positions_due()
+            run.permutations = run.permutations_due()
             statuses = [run.absorb(b""), run.customize(b""), run.customize(bytes(over)), run.finish(), run.finalize(b""), run.squeeze(0)[0]]
             self.assertEqual(statuses, [5] * 6, (phase, totals))
 

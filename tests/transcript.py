@@ -1,13 +1,14 @@
 """What any list of calls must answer: document 01's book.
 
-`Transcript`, `KtTranscript` and `DayTranscript` get the arguments of each call alone, and say its status and its bytes. `Transcript` is
-that of every function that is the sponge alone (sponge_functions.py). model_run.py has runs with their fields, one_go.py the calls in one
+`Transcript`, `KtTranscript` and `DayTranscript` get the arguments of each call alone, and say its status and its bytes, and how many
+permutations the definition takes for the bytes so far (request Q-10). `Transcript` is that of every function that is the sponge alone (sponge_functions.py). model_run.py has runs with their fields, one_go.py the calls in one
 go. Written from documents 01 and 02 and the draft, never from the Rattle sources.
 
 A KT run and a day have a customization phase (request Q-2): `customize` takes a piece of C, `finish` closes the run with the C so taken,
 `finalize` closes a run in the message phase with a whole C.
 """
 import reference
+from counted_hash import CountedSponge, CountedTree
 from sponge_functions import SPONGE, TURBOSHAKE
 
 KT = {2: 168, 3: 136}  # the rates of functions 2 and 3: KT128 and KT256
@@ -53,9 +54,30 @@ class Transcript(Limits):
         self.argument = None
         self.read = 0
         self.output = b""  # the first bytes of the published output, as many as were worked out
+        self.counted = CountedSponge(function)
 
     def totals(self):
         return len(self.fed), self.read
+
+    @property
+    def permutations(self):
+        """Counted while the joined bytes are hashed, never by a formula: the runs' answer 5 has that one, and is held to this.
+
+        Only what came since it was last asked is hashed, else lists of calls would take too long.
+        """
+        if self.phase != FINALIZED:
+            self.counted.absorb(self.joined())
+        else:
+            if not self.counted.output:
+                self.close_counted()
+            self.counted.read(self.read)
+        return self.counted.permutations
+
+    def joined(self):
+        return self.fed
+
+    def close_counted(self):
+        self.counted.close(self.fed, self.function.byte_after(self.argument))
 
     def argument_status(self, domain):
         return domain_status(self.function, domain)
@@ -102,9 +124,16 @@ class KtTranscript(Transcript):
     def __init__(self, rate):
         super().__init__(NODES[rate])
         self.argument = bytearray()
+        self.counted = CountedTree(self.function, CHAINING[rate])
 
     def totals(self):
         return *super().totals(), len(self.argument)
+
+    def joined(self):
+        return self.fed + self.argument
+
+    def close_counted(self):
+        self.counted.close(reference.merged(self.fed, self.argument))
 
     def argument_status(self, custom):
         return custom_status(len(custom), self.CUSTOM_LIMIT)
