@@ -2,8 +2,9 @@
 import random
 
 import reference
-from replay import ABSORBED, CUSTOMIZED, LANES, LEAF_LANES, LEAF_POSITION, MOST, PHASE, POSITION, SEED, SQUEEZED, Calls
+from replay import ABSORBED, CUSTOMIZED, LANES, LEAF_LANES, LEAF_POSITION, MOST, PERMUTATIONS, PHASE, POSITION, SEED, SQUEEZED, Calls
 from sponge_functions import SPONGE, TURBOSHAKE
+from sponge_lists import write_count
 from transcript import ABSORBING, CUSTOMIZING, FINALIZED, KT, Limits
 
 CHUNK = reference.CHUNK
@@ -68,17 +69,21 @@ def total(source, rate, limit):
 
 
 def custom_total(source, rate, absorbed):
-    """A number of customization bytes: one of those, or one with which the bytes of S so far end around a chunk's or a block's end."""
-    if source.randrange(2):
+    """A number of customization bytes: one of those, one below the limit, or one with which S so far ends around a chunk's or a block's end."""
+    kind = source.randrange(5)
+    if kind < 2:
         return total(source, rate, CUSTOM_LIMIT)
+    if kind == 2:
+        return CUSTOM_LIMIT - source.randrange(700)
     some = source.choice((0, source.randrange(CUSTOM_LIMIT - 2 * CHUNK)))
     return some + source.choice(near(absorbed + some, source.choice((rate, CHUNK))))
 
 
 def fit(calls):
-    """Writes the positions that go with the phase and the totals."""
+    """Writes the positions and the permutations that go with the phase and the totals."""
     for field, position in zip((POSITION, LEAF_POSITION), calls.run.positions_due()):
         calls.set(field, position)
+    calls.set(PERMUTATIONS, calls.run.permutations_due())
 
 
 def overwrite(source, calls):
@@ -90,7 +95,8 @@ def overwrite(source, calls):
     calls.set(CUSTOMIZED, 0 if run.phase == ABSORBING and source.randrange(8) else custom_total(source, rate, run.absorbed))
     for field, right in zip((POSITION, LEAF_POSITION), run.positions_due()):
         wrong = (right + 1, abs(right - 1), 0, rate, rate + 1, 200, BIG, source.getrandbits(64))
-        calls.set(field, right if source.randrange(9) else source.choice(wrong))
+        calls.set(field, right if source.randrange(12) else source.choice(wrong))
+    write_count(source, calls, 12)
     for lanes in (LANES, LEAF_LANES):
         for lane in source.sample(range(25), source.choice((0, 1, 25))):
             calls.set(lanes + lane, source.getrandbits(64))
@@ -184,13 +190,12 @@ class KtLists:
             self.one_go()
 
     def many(self, step, stream, counts):
-        """Some calls, now and then a dump, and seldom a fresh run that is given the fields of the one in hand."""
+        """Some calls, and seldom a fresh run that is given the fields of the one in hand."""
         for _ in range(self.source.choice(counts)):
             step(stream)
-            if self.source.randrange(4) == 0:
-                self.calls.dump()
             if self.source.randrange(60) == 0:
                 self.calls.rebuild(lambda fields: self.source.sample(fields, len(fields)))
+                self.calls.dump()
 
     def closed(self, stream):
         """Closes the run: with a whole C or, after a phase of pieces, the first of which is often empty, by the new close."""
@@ -206,14 +211,14 @@ class KtLists:
         """A list from a fresh run, never overwritten."""
         stream = self.source.choice(STREAMS)
         self.fresh()
+        self.calls.dump()
         self.many(self.absorbing, stream, (0, 1, 2, 5, 10, 20))
         if self.source.randrange(20):
             self.closed(stream)
             self.many(self.squeezing, stream, (0, 2, 4, 8))
-        self.calls.dump()
 
     def steps_list(self):
-        """Byte by byte over the end of a chunk, with a dump after each; the last bytes are the message's or, after some, C's."""
+        """Byte by byte over the end of a chunk; the last bytes are the message's or, after some, C's."""
         source, calls = self.source, self.calls
         stream = source.choice(STREAMS)
         self.fresh()
@@ -221,15 +226,12 @@ class KtLists:
         calls.absorb(stream[: self.filling(start)])
         for at in range(start, start + source.randrange(2, 7)):
             calls.absorb(stream[at : at + self.filling(1)])
-            calls.dump()
         if source.randrange(2):
             calls.finalize(CUSTOM[: source.randrange(4)])
         else:
             for at in range(source.randrange(1, 7)):
                 calls.customize(CUSTOM[at : at + source.choice((0, 1, 1))])
-                calls.dump()
             calls.finish()
-        calls.dump()
         calls.squeeze(32)
 
     def other_list(self):
@@ -237,10 +239,8 @@ class KtLists:
         calls, number = self.calls, self.source.choice(list(SPONGE))
         calls.fresh(number)
         calls.absorb(STREAMS[0][: self.source.randrange(400)])
-        calls.dump()
         calls.finalize(0x1F if number in TURBOSHAKE else None)
         calls.squeeze(28)
-        calls.dump()
 
     def overwritten_call(self):
         """A call on such a run: one of its phase that just reaches the limit or passes it, or any other."""
@@ -277,4 +277,3 @@ class KtLists:
             overwrite(source, calls)
             for _ in range(source.randrange(2, 6)):
                 self.overwritten_call()
-        calls.dump()

@@ -13,15 +13,15 @@ import model_run
 import one_go
 import transcript
 from sponge_functions import FIPS202, SPONGE, TURBOSHAKE
-from transcript import KT, RATES
+from transcript import KT, NOT_REACHED, RATES
 
 PROGRAM = Path(__file__).resolve().parent.parent / "target/bin/replay"
 SEED = 20  # of every random list
 MOST = 262_144  # the length of the program's buffers
 BEFORE = b"\xa5"  # each byte of the buffer that a squeeze is given
 # The fields that S writes. Lane i is 64 + i; the leaf's 96 + i. Only a run of KT or a day has a leaf and customization bytes.
-PHASE, ABSORBED, SQUEEZED, POSITION, LEAF_POSITION, CUSTOMIZED, LANES, LEAF_LANES = 0, 1, 2, 3, 4, 5, 64, 96
-NAMES = {PHASE: "phase", ABSORBED: "absorbed", SQUEEZED: "squeezed", CUSTOMIZED: "customized"}
+PHASE, ABSORBED, SQUEEZED, POSITION, LEAF_POSITION, CUSTOMIZED, PERMUTATIONS, LANES, LEAF_LANES = 0, 1, 2, 3, 4, 5, 6, 64, 96
+NAMES = {PHASE: "phase", ABSORBED: "absorbed", SQUEEZED: "squeezed", CUSTOMIZED: "customized", PERMUTATIONS: "permutations"}
 
 
 def counted(data, n=None):
@@ -79,13 +79,18 @@ def bytes_line(status, out, size):
 
 
 def numbers_line(phase, *numbers):
-    return f"{phase:02x} " + " ".join(f"{v:016x}" for v in numbers)
+    return f"{phase:02x} " + " ".join([f"{v:016x}" for v in numbers])
+
+
+def totals_of(one):
+    """What a book and a run both have: phase, totals, permutations."""
+    return one.phase, *one.totals(), one.permutations
 
 
 def dump_line(run):
-    """Phase, totals, positions, lanes."""
+    """Phase, totals, permutations, positions, lanes."""
     sponges = run.sponges()
-    return numbers_line(run.phase, *run.totals(), *(s.position for s in sponges), *(lane for s in sponges for lane in s.lanes))
+    return numbers_line(*totals_of(run), *(s.position for s in sponges), *(lane for s in sponges for lane in s.lanes))
 
 
 def difference(got, want):
@@ -104,11 +109,14 @@ class Calls:
 
     def __init__(self):
         self.records = bytearray()
-        self.expected = []  # (number of the record, what it asks, the line); two of a record where book and run both say it
+        self.expected = []  # (number of the record, what it asks, the line); two of a record where book and run do not say the same
         self.lines = 0
         self.answers = Counter()  # of (op, status)
         self.answers_of = Counter()  # of (function of the run in hand, or of the hash in one go; op, status)
+        self.wrong_counts = Counter()  # of the function: calls that were refused for the permutations of the run alone
         self.function = self.book = self.run = None
+        self.answer = None  # the line of the last call
+        self.state = None  # that of the dump after it; none once a field was overwritten
 
     @property
     def rate(self):
@@ -116,25 +124,32 @@ class Calls:
 
     def add(self, what, data, *wanted):
         self.records += data
-        self.expected += [(self.lines, what, line) for line in wanted]
+        self.expected += [(self.lines, what, line) for line in dict.fromkeys(wanted)]
         self.lines += 1
 
     def fresh(self, function):
-        self.function = function
+        self.function, self.state = function, None
         self.book, self.run = transcript.book_of(function), model_run.run_of(function)
         self.add(f"N {function}", record("N", bytes([function])), "fresh")
 
     def call(self, what, data, *wanted, function=None):
-        """Adds a call, whose line begins with its status. After a refusal the run must be as it was, so a dump follows.
+        """Adds a call, whose line begins with its status. A dump follows, so that after every call all fields of the run are compared.
 
         `function` is that of a hash in one go, which need not be the run's.
         """
         self.add(what, data, *wanted)
-        status = int(wanted[-1].split(" ")[0])
+        self.answer = wanted[-1]
+        status = int(self.answer.split(" ", 1)[0])
         self.answers[what[0], status] += 1
         self.answers_of[self.function if function is None else function, what[0], status] += 1
-        if status:
-            self.dump()
+        if status == NOT_REACHED and self.reached_but_for_the_count():
+            self.wrong_counts[self.function] += 1
+        self.dump()
+
+    def reached_but_for_the_count(self):
+        counted, self.run.permutations = self.run.permutations, self.run.permutations_due()
+        reached, self.run.permutations = self.run.is_reached(), counted
+        return reached
 
     def asked(self, name, *arguments):
         return [getattr(one, name)(*arguments) for one in (self.book, self.run) if one]
@@ -192,7 +207,7 @@ class Calls:
 
     def set(self, field, value):
         """Overwrites a field of the run in hand; the book has nothing to say of it from here on."""
-        self.book = None
+        self.book = self.state = None
         if field >= LEAF_LANES:
             self.run.leaf.lanes[field - LEAF_LANES] = value
         elif field >= LANES:
@@ -206,12 +221,11 @@ class Calls:
     def dump(self):
         if not self.run:  # one-go calls need no run
             return
-        wanted = dump_line(self.run)
-        said = []
-        if self.book:  # the phase and the totals are the book's; the position and the lanes only the run has
-            totals = numbers_line(self.book.phase, *self.book.totals())
-            said = [totals + wanted[len(totals) :]]
-        self.add("D", record("D"), *said, wanted)
+        self.state = said = dump_line(self.run)
+        if self.book:  # the positions and the lanes only the run has
+            totals = numbers_line(*totals_of(self.book))
+            said = totals + said[len(totals) :]
+        self.add("D", record("D"), said, self.state)
 
     def rebuild(self, order):
         """A fresh run, every field of which is written as the run in hand has it, is that run: its book goes on."""

@@ -1,6 +1,6 @@
 """Random lists of calls on runs of the functions that are the sponge, and what the tests of such runs share."""
 from model_run import position_after
-from replay import ABSORBED, LANES, PHASE, POSITION, SQUEEZED
+from replay import ABSORBED, LANES, PERMUTATIONS, PHASE, POSITION, SQUEEZED
 from sponge_functions import SPONGE, TURBOSHAKE
 from transcript import ABSORBING, Limits, read_limit
 
@@ -92,23 +92,22 @@ def squeezing(source, calls):
 
 
 def many(source, calls, step):
-    """Some calls, now and then a dump, and seldom a fresh run that is given the fields of the one in hand."""
+    """Some calls, and seldom a fresh run that is given the fields of the one in hand."""
     for _ in range(source.choice((0, 1, 2, 5, 10, 20))):
         step(source, calls)
-        if source.randrange(4) == 0:
-            calls.dump()
         if source.randrange(60) == 0:
             calls.rebuild(lambda fields: source.sample(fields, len(fields)))
+            calls.dump()
 
 
 def reached_list(source, calls):
     """A list from a fresh run, never overwritten."""
     calls.fresh(source.choice(NUMBERS))
+    calls.dump()
     many(source, calls, absorbing)
     if source.randrange(20):
         calls.finalize(closing(source, calls.function))
         many(source, calls, squeezing)
-    calls.dump()
 
 
 def small_list(source, calls):
@@ -119,7 +118,6 @@ def small_list(source, calls):
     calls.finalize(closing(source, calls.function))
     for _ in range(100):
         calls.squeeze(source.randrange(6))
-    calls.dump()
 
 
 def total(source, rate, limit):
@@ -127,6 +125,13 @@ def total(source, rate, limit):
     near = source.choice((0, 1, source.randrange(min(700, limit))))
     inside = (0, near, rate, limit, limit - near, limit - rate, rate * source.randrange(1, 5))
     return source.choice((*(min(max(0, size), limit) for size in inside), limit + 1 + near, BIG - near))
+
+
+def write_count(source, calls, seldom):
+    """Writes the permutations that go with the phase and the totals; once in so many times a wrong number."""
+    right = calls.run.permutations_due()
+    wrong = ((right + 1) & BIG, (right - 1) & BIG, 0, BIG, right ^ 1 << 32, source.getrandbits(64))
+    calls.set(PERMUTATIONS, right if source.randrange(seldom) else source.choice(wrong))
 
 
 def overwrite(source, calls):
@@ -139,7 +144,8 @@ def overwrite(source, calls):
     calls.set(SQUEEZED, squeezed)
     right = position_after(rate, calls.run.absorbed if calls.run.phase == ABSORBING else squeezed)
     wrong = (right + 1, abs(right - 1), 0, rate, rate + 1, 200, BIG, source.getrandbits(64))
-    calls.set(POSITION, right if source.randrange(5) else source.choice(wrong))
+    calls.set(POSITION, right if source.randrange(9) else source.choice(wrong))
+    write_count(source, calls, 9)
     for lane in source.sample(range(25), source.choice((0, 1, 25))):
         calls.set(LANES + lane, source.getrandbits(64))
 
@@ -170,7 +176,6 @@ def overwritten_list(source, calls):
         overwrite(source, calls)
         for _ in range(source.randrange(2, 7)):
             overwritten_call(source, calls)
-    calls.dump()
 
 
 KINDS = {reached_list: 25, overwritten_list: 30, small_list: 1, one_go: 25}  # how often each comes

@@ -10,7 +10,7 @@ import unittest
 import reference
 import sponge_lists
 from model_run import position_after
-from replay import ABSORBED, MOST, PHASE, POSITION, SEED, SQUEEZED, Calls, Held
+from replay import ABSORBED, MOST, PERMUTATIONS, PHASE, POSITION, SEED, SQUEEZED, Calls, Held
 from sponge_functions import SHA3, SPONGE, TURBOSHAKE
 from sponge_lists import BIG, LIMIT
 from transcript import ABSORBING, FINALIZED, Limits, read_limit
@@ -36,6 +36,7 @@ class Lists(Held):
             for op, statuses in possible.items():
                 for status in statuses:
                     self.assertGreater(calls.answers_of[number, op, status], 30, (number, op, status))
+            self.assertGreater(calls.wrong_counts[number], 30, number)
         self.assertGreater(min(calls.answers["P", 0], calls.answers["P", 16]), 30)
         self.hold(calls)
 
@@ -51,11 +52,9 @@ class Lists(Held):
                 calls.fresh(number)
                 for part in (message[: len(message) // 3], b"", message[len(message) // 3 :]):
                     calls.absorb(part)
-                calls.dump()
                 calls.finalize(closing(number, 0x7F))
                 for size in (asked // 2, 0, asked - asked // 2, 1):
                     calls.squeeze(size)
-                    calls.dump()
         self.hold(calls)
 
     def test_short_pieces(self):
@@ -67,7 +66,6 @@ class Lists(Held):
                 calls.fresh(number)
                 calls.absorb(reference.ptn(before))
                 calls.absorb(bytes(range(255, 255 - size, -1)))
-                calls.dump()
         self.assertEqual(calls.answers["A", 0], sum(2 * 10 * (function.rate + 1) for function in SPONGE.values()), "the test itself is wrong")
         self.hold(calls)
 
@@ -80,6 +78,7 @@ class Lists(Held):
                 calls.fresh(number)
                 calls.set(ABSORBED, LIMIT - left)
                 calls.set(POSITION, position_after(rate, LIMIT - left))
+                calls.set(PERMUTATIONS, calls.run.permutations_due())
                 for size in (left + 1, left, 1, 0, 5000):
                     calls.absorb(bytes(size))
                 if number in TURBOSHAKE:
@@ -89,6 +88,7 @@ class Lists(Held):
                 left = min(left, most)  # SHA3's digest is shorter than a block
                 calls.set(SQUEEZED, most - left)
                 calls.set(POSITION, position_after(rate, most - left))
+                calls.set(PERMUTATIONS, calls.run.permutations_due())
                 for size in (left + 1, left, 1, 0, 5000):
                     calls.squeeze(size)
         self.assertEqual((calls.answers["A", 2], calls.answers["R", 6]), (8 * 6 * 3, 8 * 6 * 3), "the test itself is wrong")
@@ -109,9 +109,10 @@ class Lists(Held):
         self.hold(calls)
 
     def refused_by_5(self, calls, phase, absorbed, squeezed, position):
-        """Every call on such a run, one that another number would refuse too, answers 5."""
+        """Every call on such a run, one that another number would refuse too, answers 5. The permutations are those that go with the totals."""
         for field, value in ((PHASE, phase), (ABSORBED, absorbed), (SQUEEZED, squeezed), (POSITION, position)):
             calls.set(field, value)
+        calls.set(PERMUTATIONS, calls.run.permutations_due())
         before = calls.answers[("A", 5)]
         for size in (0, 1, 1000):
             calls.absorb(bytes(size))
@@ -151,7 +152,6 @@ class Lists(Held):
             calls.squeeze(MOST)
             calls.finalize(closing(number, 0x1F))
             calls.squeeze(MOST)
-            calls.dump()
             calls.squeeze(function.digest or 32)
             calls.one_go(number, reference.ptn(MOST - (6 if number in TURBOSHAKE else 5)), closing(number, 0x01), function.digest or 32)
             calls.one_go(number, b"", closing(number, 0x01), MOST)

@@ -67,9 +67,8 @@ class Customization(Held):
         self.answered("R", status, self.calls.squeeze, *((size,) for size in sizes))
 
     def dumped(self):
-        """The line that a dump must say. Two that are equal are then equal dumps of the program, which is held to both."""
-        self.calls.dump()
-        return self.calls.expected[-1][2]
+        """The line of the dump after the last call. Two that are equal are then equal dumps of the program, which is held to both."""
+        return self.calls.state
 
     def overwritten(self, function, phase, absorbed, customized, squeezed=0):
         """A run that has this phase and these totals, the positions that go with them, and lanes that are not zero."""
@@ -136,7 +135,6 @@ class Customization(Held):
             self.assertEqual(b"".join(pieces), custom, "the test itself is wrong")
             self.fresh(function, message)
             self.customized(0, *pieces)
-            self.dumped()
             self.finished(0)
             self.assertEqual(self.dumped(), whole, "the test itself is wrong")
         self.squeezed(0, 33)
@@ -203,7 +201,6 @@ class Customization(Held):
                     self.customized(0, b"")
                     self.absorbed(3, b"", b"a")
                     self.finished(0)
-                    self.dumped()
                     self.squeezed(0, 40)
         for left in (MOST - 1, MOST):
             self.overwritten(2, CUSTOMIZING, 3, CUSTOM_LIMIT - left)
@@ -268,7 +265,6 @@ class Customization(Held):
             self.squeezed(3, 0, 1, rate)
             self.finished(0)
             self.squeezed(0, 0, 1, rate - 1, rate, rate + 1, 0, 500)
-            self.dumped()
             for customized in (0, 50, CUSTOM_LIMIT):
                 for left in (0, 1, rate, 500):
                     self.overwritten(function, FINALIZED, 9000, customized, SQUEEZE_LIMIT - left)
@@ -295,7 +291,7 @@ class Customization(Held):
             custom = b"".join(pieces)
             self.assertEqual(len(custom), CUSTOM_LIMIT, "the test itself is wrong")
             digest = reference.kangarootwelve(rate, CHAINING[rate], message, custom, 64)
-            self.assertEqual(self.calls.expected[-1][2], f"0 {digest.hex()}", "the test itself is wrong")
+            self.assertEqual(self.calls.answer, f"0 {digest.hex()}", "the test itself is wrong")
         self.hold(self.calls)
 
 

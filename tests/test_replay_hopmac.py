@@ -180,21 +180,17 @@ class HopMac(Held):
             calls.absorb(MESSAGE[:9000])
             for size in (64, 0):
                 calls.hopmac(function % 2, KEY[:32], MESSAGE[:300], CUSTOM[:9], size)
-                calls.dump()
                 calls.verify(function % 2, KEY[:32], MESSAGE[:300], CUSTOM[:9], bytes(size))
-                calls.dump()
             calls.absorb(MESSAGE[9000:9100])
             if function == 0:
                 calls.finalize(0x1F)
             else:
                 calls.customize(b"ab")
                 calls.hopmac(1, KEY[:32], MESSAGE[:300], b"", 64)
-                calls.dump()
                 calls.customize(b"c")
                 calls.finish()
             calls.hopmac(1, KEY[:32], MESSAGE[:300], b"", 64)
             calls.squeeze(64)
-            calls.dump()
         self.hold(calls)
 
     def test_longest(self):

@@ -7,7 +7,7 @@ import unittest
 import reference
 from kt_lists import BIG, CHUNK, CUSTOM, CUSTOM_LIMIT, LIMIT, SQUEEZE_LIMIT, STREAMS, KtLists, event_of, fit
 from one_go import HOPMAC
-from replay import ABSORBED, CUSTOMIZED, LANES, LEAF_LANES, LEAF_POSITION, MOST, PHASE, POSITION, SQUEEZED, Calls, Held
+from replay import ABSORBED, CUSTOMIZED, LANES, LEAF_LANES, LEAF_POSITION, MOST, PERMUTATIONS, PHASE, POSITION, SQUEEZED, Calls, Held
 from transcript import ABSORBING, CUSTOMIZING, DAY, FINALIZED, KT, Limits
 
 CALLS = 10_000  # of all ops together
@@ -62,7 +62,6 @@ class DayLists(KtLists):
         self.calls.fresh(self.source.choice(list(KT)))
         self.calls.absorb(STREAMS[0][: EVENT + self.source.randrange(3)])
         self.calls.finalize(b"abc")
-        self.calls.dump()
 
     def one_go(self):
         """By KT, or seldom by HopMAC."""
@@ -81,6 +80,7 @@ class Days(Held):
         for op, statuses in possible.items():
             for status in statuses:
                 self.assertGreater(calls.answers[op, status], 20, (op, status))
+        self.assertGreater(calls.wrong_counts[JOURNAL], 20)
         self.hold(calls)
 
     def test_sizes_of_events(self):
@@ -94,7 +94,6 @@ class Days(Held):
                 calls.absorb(LONG[:size])
             for size in (0, 1, EVENT - 1, EVENT):
                 calls.absorb(STREAMS[0][calls.run.absorbed :][:size])
-                calls.dump()
             calls.absorb(LONG[: EVENT + 1])
             calls.finalize(b"station")
             calls.squeeze(32)
@@ -126,7 +125,7 @@ class Days(Held):
                 calls.finalize(name)
                 calls.finish()
                 calls.squeeze(40)
-                lines.add(calls.expected[-1][2])
+                lines.add(calls.answer)
             self.assertEqual(len(lines), 1, "the test itself is wrong")
         self.assertEqual((calls.answers["F", 0], calls.answers["F", 3]), (10, 20), "the test itself is wrong")
         self.assertEqual((calls.answers["E", 0], calls.answers["E", 3]), (10, 20), "the test itself is wrong")
@@ -182,11 +181,13 @@ class Days(Held):
             calls.customize(name)
             self.answered(calls, 3, 0, 1, EVENT, *REFUSED, MOST)
         totals = (ABSORBED, LIMIT + 1), (SQUEEZED, SQUEEZE_LIMIT + 1), (CUSTOMIZED, CUSTOM_LIMIT + 1)
-        for field, wrong in ((PHASE, 3), *totals, (POSITION, 169), (LEAF_POSITION, 1)):
+        for field, wrong in ((PHASE, 3), *totals, (POSITION, 169), (LEAF_POSITION, 1), (PERMUTATIONS, 2)):
             for phase in (ABSORBING, FINALIZED, CUSTOMIZING):
                 calls.fresh(JOURNAL)
                 calls.set(PHASE, phase)
                 calls.set(field, wrong)
+                if field != PERMUTATIONS:
+                    calls.set(PERMUTATIONS, calls.run.permutations_due())
                 self.answered(calls, 5, 0, 1, EVENT, *REFUSED)
         for totals in ((LIMIT + 1, 0, 0), (BIG, 0, 0), (0, 1, 0), (0, 0, 1), (7, 0, CUSTOM_LIMIT)):
             calls.fresh(JOURNAL)
@@ -208,7 +209,7 @@ class Days(Held):
             self.answered(calls, status, 0, 1, EVENT, *REFUSED, MOST)
         for phase in (ABSORBING, FINALIZED, CUSTOMIZING):
             calls.set(PHASE, phase)
-            for field, wrong in ((POSITION, 169), (LEAF_POSITION, 3)):
+            for field, wrong in ((POSITION, 169), (LEAF_POSITION, 3), (PERMUTATIONS, 0), (PERMUTATIONS, BIG)):
                 fit(calls)
                 calls.set(field, wrong)
                 self.answered(calls, 5, 0, 1, EVENT, *REFUSED, MOST)
@@ -227,16 +228,15 @@ class Days(Held):
                 for function, piece in ((JOURNAL, event), (2, event + encoded)):
                     self.with_left(calls, function, len(event + encoded) + spare)
                     calls.absorb(piece)
-                    calls.dump()
-                    dumps.append(calls.expected[-1][2])
-                    self.assertEqual((calls.expected[-2][2], calls.run.absorbed), ("0", LIMIT - spare), "the test itself is wrong")
+                    dumps.append(calls.state)
+                    self.assertEqual((calls.answer, calls.run.absorbed), ("0", LIMIT - spare), "the test itself is wrong")
                 self.assertEqual(dumps[0], dumps[1], "the test itself is wrong")
             for left in range(max(0, size - 1), size + len(encoded)):
                 self.with_left(calls, JOURNAL, left)
                 calls.dump()
+                before = calls.state
                 calls.absorb(event)
-                before, status, after = (line for _, _, line in calls.expected[-3:])
-                self.assertEqual((status, after), ("2", before), "the test itself is wrong")
+                self.assertEqual((calls.answer, calls.state), ("2", before), "the test itself is wrong")
                 calls.finalize(STATION)
                 calls.squeeze(32)
         self.assertEqual((calls.answers["A", 0], calls.answers["A", 2]), (5 * 2 * 2, 1 + 3 + 3 + 4 + 4), "the test itself is wrong")
@@ -249,7 +249,7 @@ class Days(Held):
             calls.absorb(event)
         calls.finalize(name)
         calls.squeeze(32)
-        return calls.expected[-1][2]
+        return calls.answer
 
     def test_same_bytes_joined(self):
         """The days of request Q-1, `AB`, `C` and `A`, `BC`, one with an empty event, and one of `ABC`: each digest is that of its own message."""
@@ -265,7 +265,7 @@ class Days(Held):
             for events, message in messages.items():
                 line = self.day(calls, *events, name=name)
                 calls.kt_one_go(2, bytes.fromhex(message), name, 32)
-                self.assertEqual(line, calls.expected[-1][2], "the test itself is wrong")
+                self.assertEqual(line, calls.answer, "the test itself is wrong")
                 lines.add(line)
             self.assertEqual(len(lines), len(messages))
         self.hold(calls)
@@ -277,8 +277,7 @@ class Days(Held):
         totals = []
         for event in (b"", b"", b"", b"A", b""):
             calls.absorb(event)
-            calls.dump()
-            totals.append(int(calls.expected[-1][2].split()[1], 16))
+            totals.append(int(calls.state.split()[1], 16))
         self.assertEqual(totals, [1, 2, 3, 6, 7], "the test itself is wrong")
         days = (), (b"",), (b"", b""), (b"", b"", b""), (b"A",), (b"A", b""), (b"", b"A"), (b"A", b"", b"")
         lines = [self.day(calls, *events) for events in days]
@@ -307,7 +306,7 @@ class Days(Held):
             self.answered(calls, 2, *refused[-1:], 0)
             calls.finalize(STATION)
             calls.squeeze(32)
-            lines.add(calls.expected[-1][2])
+            lines.add(calls.answer)
         self.assertEqual(len(lines), 1, "the test itself is wrong")
         self.hold(calls)
 
@@ -322,19 +321,19 @@ class Days(Held):
             events = [STREAMS[1][sum(sizes[:at]) :][:size] for at, size in enumerate(sizes)]
             message = reference.day_message(events)
             for name in (b"", STATION, CUSTOM[: -(len(message) + 3) % CHUNK]):
-                start = len(calls.expected)
+                lines, dumps = set(), []
                 for function in (JOURNAL, 2):
                     calls.fresh(function)
+                    start = len(calls.expected)
                     for event in events:
                         calls.absorb(event if function == JOURNAL else reference.with_length(event))
-                    calls.dump()
                     calls.finalize(name)
                     calls.squeeze(200)
+                    lines.add(calls.answer)
+                    dumps.append([line for _, what, line in calls.expected[start:] if what == "D"])
                 calls.kt_one_go(2, message, name, 200)
-                lines = {line for _, what, line in calls.expected[start:] if what[0] in "RK"}
-                self.assertEqual(lines, {f"0 {reference.kt128(message, name, 200).hex()}"}, "the test itself is wrong")
-                dumps = {line for _, what, line in calls.expected[start:] if what == "D"}
-                self.assertEqual(len(dumps), 1, "the test itself is wrong")
+                self.assertEqual({*lines, calls.answer}, {f"0 {reference.kt128(message, name, 200).hex()}"}, "the test itself is wrong")
+                self.assertEqual((dumps[0], len(dumps[0])), (dumps[1], len(events) + 2), "the test itself is wrong")
         self.hold(calls)
 
 

@@ -20,6 +20,8 @@ class Lists(Held):
         for op, statuses in possible.items():
             for status in statuses:
                 self.assertGreater(calls.answers[op, status], 20, (op, status))
+        for number in KT:
+            self.assertGreater(calls.wrong_counts[number], 20, number)
         self.hold(calls)
 
     def test_edges_of_the_chunks(self):
@@ -33,9 +35,7 @@ class Lists(Held):
                 calls.fresh(function)
                 for part in (message[: len(message) // 3], b"", message[len(message) // 3 :]):
                     calls.absorb(part)
-                calls.dump()
                 calls.finalize(last)
-                calls.dump()
                 calls.squeeze(15)
                 calls.squeeze(25)
             for size in (0, CHUNK, 2 * CHUNK + 1):
@@ -179,7 +179,6 @@ class Lists(Held):
         calls.finalize(reference.ptn(MOST))
         calls.finalize(reference.ptn(MOST))
         calls.squeeze(MOST)
-        calls.dump()
         calls.kt_one_go(3, reference.ptn(MOST - 9), b"", 32)
         calls.kt_one_go(3, b"", reference.ptn(MOST - 9), 32)
         calls.kt_one_go(2, reference.ptn(MOST - 9 - 65_536), reference.ptn(65_536), 32)

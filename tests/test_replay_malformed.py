@@ -4,7 +4,7 @@ Needs target/bin/replay, which `rt check` and `rt ci` leave.
 """
 import unittest
 
-from replay import CUSTOMIZED, LANES, LEAF_LANES, LEAF_POSITION, MOST, PHASE, POSITION
+from replay import CUSTOMIZED, LANES, LEAF_LANES, LEAF_POSITION, MOST, PERMUTATIONS, PHASE
 from replay import fips_record, hopmac_record, kt_record, one_go_record, permutation_record, play, record, set_record, verify_record
 from sponge_functions import FIPS202, SPONGE, TURBOSHAKE
 
@@ -181,24 +181,32 @@ class Malformed(unittest.TestCase):
                 self.refused(answered, data + record("N", b"\0"))
 
     def test_fields(self):
-        """A phase is a byte; fields 4 to 63 and from 89 on are none of a run that is one sponge."""
+        """A phase is a byte; fields 4, 5, 7 to 63 and from 89 on are none of a run that is one sponge."""
         for value in (256, 257, 1 << 32, BIG):
             for function in range(11):
                 self.refused_in_a_list(set_record(PHASE, value), function)
-        for field in (*range(POSITION + 1, LANES), *range(LANES + 25, 256)):
+        for field in (LEAF_POSITION, CUSTOMIZED, *range(PERMUTATIONS + 1, LANES), *range(LANES + 25, 256)):
             with self.subTest(field=field):
                 self.refused_in_a_list(set_record(field, 0))
                 self.refused_in_a_list(set_record(field, 0), 5 + field % 6)
         for function in SPONGE:
-            for field in (LEAF_POSITION, CUSTOMIZED, CUSTOMIZED + 1, LANES - 1, LANES + 25, LEAF_LANES, 255):
+            for field in (LEAF_POSITION, CUSTOMIZED, PERMUTATIONS + 1, PERMUTATIONS + 2, LANES - 1, LANES + 25, LEAF_LANES, 255):
                 self.refused_in_a_list(set_record(field, 0), function)
 
     def test_fields_of_kt(self):
-        """6 to 63, 89 to 95 and from 121 on are none of a KT run, nor of a day."""
-        for field in (*range(CUSTOMIZED + 1, LANES), *range(LANES + 25, LEAF_LANES), *range(LEAF_LANES + 25, 256)):
+        """7 to 63, 89 to 95 and from 121 on are none of a KT run, nor of a day."""
+        for field in (*range(PERMUTATIONS + 1, LANES), *range(LANES + 25, LEAF_LANES), *range(LEAF_LANES + 25, 256)):
             with self.subTest(field=field):
                 self.refused_in_a_list(set_record(field, 0), 2 + field % 2)
                 self.refused_in_a_list(set_record(field, 0), 4)
+
+    def test_permutations(self):
+        """Every run has the field, and it takes every number of 64 bits; a value of another length is none."""
+        for function in range(11):
+            run = [(record("N", bytes([function])), "fresh")]
+            written = [(set_record(PERMUTATIONS, value), "set") for value in (0, 1, 255, 256, 1 << 32, 1 << 63, BIG)]
+            for size in (0, 4, 7, 9):
+                self.refused(run + written, record("S", bytes([PERMUTATIONS]) + bytes(size)) + record("N", b"\1"))
 
     def test_fields_after_another_function(self):
         """The fields are those of the run in hand, whatever the one before had."""

@@ -64,12 +64,10 @@ class Rounds(Held):
             calls.absorb(reference.ptn(500))
             for rounds in (0, 12, 24, 25, 255):
                 calls.permute(rounds, STATES[4])
-                calls.dump()
             calls.finalize({0: 0x1F, 2: b"abc", 4: b"abc"}.get(number))
             for rounds in (0, 12, 24, 25, 255):
                 calls.permute(rounds, STATES[4])
                 calls.squeeze(5)
-                calls.dump()
         self.hold(calls)
 
 
