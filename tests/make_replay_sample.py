@@ -1,11 +1,13 @@
 #!/usr/bin/env python3
 """Writes crates/replay/stdin, a short list of calls, and crates/replay/stdout, the lines that the program `replay` must answer.
 
-Each status is written out here, by document 01's table and requests Q-2 and Q-5; the bytes and the lanes are the second program's.
+Each status is written out here, by document 01's table and requests Q-2, Q-5 and Q-10, and so are the small numbers of permutations; those at
+the limits are the formula's, the bytes and the lanes the second program's.
 """
 from pathlib import Path
 
 import reference
+from permutation_formula import kt_open, sponge_closed, sponge_open
 
 CRATE = Path(__file__).resolve().parent.parent / "crates/replay"
 LIMIT, READ_LIMIT, CUSTOM_LIMIT = 17_179_869_183, 4_294_967_295, 16_777_215
@@ -15,6 +17,8 @@ CLOSED = reference.keccak_p(reference.state_of(BLOCK), 12)
 SHA3_224 = reference.sha3(224, b"abc").hex()
 SHA3_BLOCK = b"abc\x06" + bytes(139) + b"\x80" + bytes(56)  # of 144 bytes
 SHA3_CLOSED = reference.keccak_p(reference.state_of(SHA3_BLOCK), 24)
+SHAKE_BLOCK = b"\x1f" + bytes(166) + b"\x80" + bytes(32)  # of no message
+SHAKE_NEXT = reference.keccak_p(reference.keccak_p(reference.state_of(SHAKE_BLOCK), 24), 24)  # after the second block of output is asked
 SHA3_NUMBERS = {5: 224, 6: 256, 7: 384, 8: 512}
 SHAKE_NUMBERS = {9: 128, 10: 256}
 CHUNK = reference.CHUNK
@@ -96,17 +100,23 @@ def run_line(phase, *numbers):
 
 
 LONG_CUSTOM = reference.ptn(65_536)
-KT_CLOSED = run_line(
-    *(1, CHUNK + 1, 37, len(CUSTOM), 37, 0), *lanes_closed(*reference.final_node(168, 32, reference.merged(MESSAGE, CUSTOM))), *[0] * 25
-)
+
+
+def kt_closed_line(message, custom, read, permutations):
+    """The dump of a KT128 run that was closed and of which less than a block was read."""
+    lanes = lanes_closed(*reference.final_node(168, 32, reference.merged(message, custom)))
+    return run_line(1, len(message), read, len(custom), permutations, read, 0, *lanes, *[0] * 25)
+
+
+KT_CLOSED = kt_closed_line(MESSAGE, CUSTOM, 37, 51)
 
 SAMPLE = [
     (record("N", b"\0"), "fresh"),
-    (record("D"), run_line(0, 0, 0, 0, *[0] * 25)),
+    (record("D"), run_line(0, 0, 0, 0, 0, *[0] * 25)),
     (record("A", b"ab"), "0"),
     (record("A", b""), "0"),
     (record("A", b"c"), "0"),
-    (record("D"), run_line(0, 3, 0, 3, 0x636261, *[0] * 24)),
+    (record("D"), run_line(0, 3, 0, 0, 3, 0x636261, *[0] * 24)),
     (record("R", n=4), "3 a5a5a5a5"),
     (record("F", b"\x00"), "1"),
     (record("F", b"\x1f"), "0"),
@@ -115,7 +125,18 @@ SAMPLE = [
     (record("R", n=0), "0 "),
     (record("R", n=32), "0 " + DIGEST[:64]),
     (record("R", n=5), "0 " + DIGEST[64:]),
-    (record("D"), run_line(1, 3, 37, 37, *CLOSED)),
+    (record("D"), run_line(1, 3, 37, 1, 37, *CLOSED)),
+    # the close took one permutation: with another number every call is refused
+    (field(6, 2), "set"),
+    (record("R", n=0), "5 "),
+    (record("A", b"d"), "5"),
+    (record("F", b"\x1f"), "5"),
+    (record("D"), run_line(1, 3, 37, 2, 37, *CLOSED)),
+    (field(6, 0), "set"),
+    (record("R", n=1), "5 a5"),
+    (field(6, 1), "set"),
+    (record("R", n=0), "0 "),
+    (record("D"), run_line(1, 3, 37, 1, 37, *CLOSED)),
     (one_go(0, 0x1F, 37, b"abc"), "0 " + DIGEST),
     (one_go(1, 0x1F, 8, b""), "0 " + reference.turboshake(136, b"", 0x1F, 8).hex()),
     (one_go(1, 0x80, 4, b"abc"), "1 a5a5a5a5"),
@@ -123,22 +144,33 @@ SAMPLE = [
     # one byte more than the most that are squeezed, and than the most that are absorbed
     (field(2, READ_LIMIT), "set"),
     (field(3, (READ_LIMIT - 1) % 168 + 1), "set"),
+    (record("R", n=1), "5 a5"),
+    (field(6, sponge_closed(168, 3, READ_LIMIT)), "set"),
     (record("R", n=1), "6 a5"),
     (record("N", b"\1"), "fresh"),
     (field(1, LIMIT), "set"),
     (field(3, (LIMIT - 1) % 136 + 1), "set"),
+    (field(6, sponge_open(136, LIMIT)), "set"),
     (record("A", b"a"), "2"),
+    (record("A", b""), "0"),
     # no run that was reached has this position
     (field(3, 0), "set"),
     (record("A", b""), "5"),
+    # a full block is permuted when its next byte comes
+    (record("N", b"\0"), "fresh"),
+    (record("A", MESSAGE[:168]), "0"),
+    (record("D"), run_line(0, 168, 0, 0, 168, *lanes_after(MESSAGE[:168]))),
+    (record("A", b""), "0"),
+    (record("A", MESSAGE[168:169]), "0"),
+    (record("D"), run_line(0, 169, 0, 1, 1, *lanes_after(MESSAGE[:169]))),
     # KT128: a full first chunk stays open until the next byte comes, which ends it and opens the leaf
     (record("N", b"\2"), "fresh"),
-    (record("D"), run_line(0, 0, 0, 0, 0, 0, *[0] * 50)),
+    (record("D"), run_line(0, 0, 0, 0, 0, 0, 0, *[0] * 50)),
     (record("A", MESSAGE[:100]), "0"),
     (record("A", MESSAGE[100:CHUNK]), "0"),
-    (record("D"), run_line(0, CHUNK, 0, 0, 128, 0, *lanes_after(MESSAGE[:CHUNK]), *[0] * 25)),
+    (record("D"), run_line(0, CHUNK, 0, 0, 48, 128, 0, *lanes_after(MESSAGE[:CHUNK]), *[0] * 25)),
     (record("A", MESSAGE[CHUNK:]), "0"),
-    (record("D"), run_line(0, CHUNK + 1, 0, 0, 136, 1, *lanes_after(MESSAGE[:CHUNK] + b"\3" + bytes(7)), MESSAGE[CHUNK], *[0] * 24)),
+    (record("D"), run_line(0, CHUNK + 1, 0, 0, 48, 136, 1, *lanes_after(MESSAGE[:CHUNK] + b"\3" + bytes(7)), MESSAGE[CHUNK], *[0] * 24)),
     (record("R", n=4), "3 a5a5a5a5"),
     # the new close is not for the message phase
     (record("E"), "3"),
@@ -154,20 +186,31 @@ SAMPLE = [
     (kt_one_go(3, b"", 8, b""), "0 " + reference.kt256(b"", b"", 8).hex()),
     (kt_one_go(3, b"", 0, b"abc"), "7 "),
     (kt_one_go(2, LONG_CUSTOM, 8, b"abc"), "0 " + reference.kt128(b"abc", LONG_CUSTOM, 8).hex()),
+    # S of 8,193 bytes with 32 read: 51 permutations
+    (record("N", b"\2"), "fresh"),
+    (record("A", MESSAGE[:CHUNK]), "0"),
+    (record("F"), "0"),
+    (record("R", n=32), "0 " + reference.kt128(MESSAGE[:CHUNK], b"", 32).hex()),
+    (record("D"), kt_closed_line(MESSAGE[:CHUNK], b"", 32, 51)),
     # the same in pieces: the first, an empty one, ends the message phase, and the first byte of C ends the full chunk of the message
     (record("N", b"\2"), "fresh"),
     (record("A", MESSAGE[:CHUNK]), "0"),
     (record("C", b""), "0"),
-    (record("D"), run_line(2, CHUNK, 0, 0, 128, 0, *lanes_after(MESSAGE[:CHUNK]), *[0] * 25)),
+    (record("D"), run_line(2, CHUNK, 0, 0, 48, 128, 0, *lanes_after(MESSAGE[:CHUNK]), *[0] * 25)),
     (record("A", b""), "3"),
     (record("A", b"d"), "3"),
     (record("F", b""), "3"),
     (record("R", n=0), "3 "),
     (record("C", b"a"), "0"),
     (record("C", b""), "0"),
-    (record("D"), run_line(2, CHUNK, 0, 1, 136, 1, *lanes_after(MESSAGE[:CHUNK] + b"\3" + bytes(7)), ord("a"), *[0] * 24)),
+    (record("D"), run_line(2, CHUNK, 0, 1, 48, 136, 1, *lanes_after(MESSAGE[:CHUNK] + b"\3" + bytes(7)), ord("a"), *[0] * 24)),
+    (field(6, 49), "set"),
+    (record("C", b""), "5"),
+    (record("E"), "5"),
+    (field(6, 48), "set"),
     (record("E"), "0"),
     (record("R", n=37), "0 " + reference.kt128(MESSAGE[:CHUNK], b"a", 37).hex()),
+    (record("D"), kt_closed_line(MESSAGE[:CHUNK], b"a", 37, 51)),
     # both closes leave the same run
     (record("N", b"\2"), "fresh"),
     (record("A", MESSAGE), "0"),
@@ -184,6 +227,7 @@ SAMPLE = [
     (field(1, LIMIT), "set"),
     (field(3, (CHUNK + 8 + 2_097_150 * 64 - 1) % 136 + 1), "set"),
     (field(4, (CHUNK - 1 - 1) % 136 + 1), "set"),
+    (field(6, kt_open(136, 64, LIMIT)), "set"),
     (record("A", b"a"), "2"),
     (record("A", b""), "0"),
     (record("C", b"ab"), "0"),
@@ -203,11 +247,12 @@ SAMPLE = [
     (field(5, CUSTOM_LIMIT - 1), "set"),
     (field(3, CUSTOM_NODE), "set"),
     (field(4, CUSTOM_LEAF), "set"),
+    (field(6, kt_open(168, 32, CUSTOM_LIMIT - 1)), "set"),
     (record("C", b"ab"), "4"),
     (record("C", b"\0"), "0"),
     (record("C", b"\0"), "4"),
     (record("C", b""), "0"),
-    (record("D"), run_line(2, 0, 0, CUSTOM_LIMIT, CUSTOM_NODE, CUSTOM_LEAF + 1, *[0] * 50)),
+    (record("D"), run_line(2, 0, 0, CUSTOM_LIMIT, kt_open(168, 32, CUSTOM_LIMIT), CUSTOM_NODE, CUSTOM_LEAF + 1, *[0] * 50)),
     (record("E"), "0"),
     (record("C", b"\0"), "3"),
     # one byte past it, in a closed run
@@ -228,12 +273,13 @@ SAMPLE = [
     # a day
     (record("N", b"\4"), "fresh"),
     *((record("A", event), "0") for event in EVENTS),
-    (record("D"), run_line(0, len(DAY), 0, 0, len(DAY), 0, *lanes_after(DAY), *[0] * 25)),
+    (record("D"), run_line(0, len(DAY), 0, 0, 0, len(DAY), 0, *lanes_after(DAY), *[0] * 25)),
     (record("R", n=1), "3 a5"),
     (record("F", STATION), "0"),
     (record("A", b"d"), "3"),
     (record("R", n=32), "0 " + DAY_DIGEST[:64]),
     (record("R", n=5), "0 " + DAY_DIGEST[64:]),
+    (record("D"), kt_closed_line(DAY, STATION, 37, 1)),
     (kt_one_go(2, STATION, 37, DAY), "0 " + DAY_DIGEST),
     # its name in pieces, after which no event is taken, not even an empty one, and 3 wins over 8
     (record("N", b"\4"), "fresh"),
@@ -241,7 +287,7 @@ SAMPLE = [
     (record("C", STATION[:10]), "0"),
     (record("A", b""), "3"),
     (record("A", bytes(65_536)), "3"),
-    (record("D"), run_line(2, len(DAY), 0, 10, len(DAY) + 10, 0, *lanes_after(DAY + STATION[:10]), *[0] * 25)),
+    (record("D"), run_line(2, len(DAY), 0, 10, 0, len(DAY) + 10, 0, *lanes_after(DAY + STATION[:10]), *[0] * 25)),
     (record("C", STATION[10:]), "0"),
     (record("E"), "0"),
     (record("R", n=37), "0 " + DAY_DIGEST),
@@ -250,10 +296,12 @@ SAMPLE = [
     (field(1, LIMIT - 1), "set"),
     (field(3, LAST_NODE), "set"),
     (field(4, (CHUNK - 2 - 1) % 168 + 1), "set"),
+    (record("A", b""), "5"),
+    (field(6, kt_open(168, 32, LIMIT - 1)), "set"),
     (record("A", b"b"), "2"),
-    (record("D"), run_line(0, LIMIT - 1, 0, 0, LAST_NODE, 126, *[0] * 50)),
+    (record("D"), run_line(0, LIMIT - 1, 0, 0, kt_open(168, 32, LIMIT - 1), LAST_NODE, 126, *[0] * 50)),
     (record("A", b""), "0"),
-    (record("D"), run_line(0, LIMIT, 0, 0, LAST_NODE, 127, *[0] * 50)),
+    (record("D"), run_line(0, LIMIT, 0, 0, kt_open(168, 32, LIMIT), LAST_NODE, 127, *[0] * 50)),
     # at the limit, an event that is too long as well
     (record("A", bytes(65_536)), "8"),
     (record("A", b"a"), "2"),
@@ -262,7 +310,7 @@ SAMPLE = [
     (record("N", b"\5"), "fresh"),
     (record("A", b"ab"), "0"),
     (record("A", b"c"), "0"),
-    (record("D"), run_line(0, 3, 0, 3, 0x636261, *[0] * 24)),
+    (record("D"), run_line(0, 3, 0, 0, 3, 0x636261, *[0] * 24)),
     (record("R", n=2), "3 a5a5"),
     (record("F"), "0"),
     (record("F"), "3"),
@@ -273,7 +321,11 @@ SAMPLE = [
     (record("R", n=8), "0 " + SHA3_224[40:]),
     (record("R", n=1), "6 a5"),
     (record("R", n=0), "0 "),
-    (record("D"), run_line(1, 3, 28, 28, *SHA3_CLOSED)),
+    (record("D"), run_line(1, 3, 28, 1, 28, *SHA3_CLOSED)),
+    (field(6, (1 << 64) - 1), "set"),
+    (record("R", n=0), "5 "),
+    (field(6, 1), "set"),
+    (record("R", n=0), "0 "),
     # no SHA3-224 run has read 29 bytes
     (field(2, 29), "set"),
     (field(3, 29), "set"),
@@ -283,6 +335,7 @@ SAMPLE = [
     (record("F"), "0"),
     (record("R", n=29), "0 " + reference.shake(128, b"", 29).hex()),
     (record("R", n=200), "0 " + reference.shake(128, b"", 229)[29:].hex()),
+    (record("D"), run_line(1, 0, 229, 2, 229 - 168, *SHAKE_NEXT)),
     # each in one go, a digest's first bytes, one byte more than it has, and none
     *((fips_one_go(number, bits // 8, MESSAGE), "0 " + reference.sha3(bits, MESSAGE).hex()) for number, bits in SHA3_NUMBERS.items()),
     *((fips_one_go(number, 200, MESSAGE), "0 " + reference.shake(strength, MESSAGE, 200).hex()) for number, strength in SHAKE_NUMBERS.items()),

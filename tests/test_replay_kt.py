@@ -6,7 +6,7 @@ import unittest
 
 import reference
 from kt_lists import BIG, CHUNK, CUSTOM, CUSTOM_LIMIT, LIMIT, SQUEEZE_LIMIT, KtLists, fit
-from replay import ABSORBED, CUSTOMIZED, LEAF_POSITION, MOST, PHASE, POSITION, SQUEEZED, Calls, Held
+from replay import ABSORBED, CUSTOMIZED, LEAF_POSITION, MOST, PERMUTATIONS, PHASE, POSITION, SQUEEZED, Calls, Held
 from transcript import ABSORBING, CUSTOMIZING, FINALIZED, KT
 
 CALLS = 20_000  # of all ops together
@@ -67,12 +67,14 @@ class Lists(Held):
         self.assertEqual((calls.answers["A", 2], calls.answers["R", 6]), (2 * 7 * 3, 2 * 7 * 3), "the test itself is wrong")
         self.hold(calls)
 
-    def refused_by_5(self, calls, *totals, positions=None):
+    def refused_by_5(self, calls, *totals, positions=None, permutations=None):
         """Every call on a run with this phase and these totals answers 5, one that another number would refuse too.
 
-        The positions are those that go with the totals where none are given.
+        The positions and the permutations are those that go with the totals where none are given.
         """
         self.write(calls, *totals)
+        if permutations is not None:
+            calls.set(PERMUTATIONS, permutations)
         for field, position in zip((POSITION, LEAF_POSITION), positions or ()):
             calls.set(field, position)
         before, refused = calls.answers.total(), self.refused(calls)
@@ -109,8 +111,8 @@ class Lists(Held):
             calls.fresh(function)
             for phase in (*range(3, 10), 0x80, 0xFF):
                 for absorbed, customized in ((0, 0), (9, 0), (9, 9)):
-                    for positions in (None, (absorbed + customized, 0)):
-                        self.refused_by_5(calls, phase, absorbed, 0, customized, positions=positions)
+                    for positions, permutations in ((None, None), ((absorbed + customized, 0), 0)):
+                        self.refused_by_5(calls, phase, absorbed, 0, customized, positions=positions, permutations=permutations)
             for over in (LIMIT + 1, LIMIT + 1 + rate, 1 << 63, BIG):
                 for phase in (ABSORBING, FINALIZED, CUSTOMIZING):
                     self.refused_by_5(calls, phase, over, 0, 0)
@@ -131,9 +133,10 @@ class Lists(Held):
             for absorbed in (0, 1, rate, CHUNK, CHUNK + 1, LIMIT - 1, LIMIT):
                 for customized in (1, 7, rate, CHUNK, CUSTOM_LIMIT, CUSTOM_LIMIT + 1, 1 << 32, BIG):
                     self.refused_by_5(calls, ABSORBING, absorbed, 0, customized)
-                # the positions that would be due were the customization bytes counted
+                # what would be due were the customization bytes counted
                 self.write(calls, CUSTOMIZING, absorbed, 0, 7)
-                self.refused_by_5(calls, ABSORBING, absorbed, 0, 7, positions=calls.run.positions_due())
+                positions, permutations = calls.run.positions_due(), calls.run.permutations_due()
+                self.refused_by_5(calls, ABSORBING, absorbed, 0, 7, positions=positions, permutations=permutations)
                 for over in (CUSTOM_LIMIT + 1, CUSTOM_LIMIT + 1 + rate, 1 << 32, (1 << 32) + 5, 1 << 63, BIG):
                     self.refused_by_5(calls, CUSTOMIZING, absorbed, 0, over)
                     self.refused_by_5(calls, FINALIZED, absorbed, 0, over)
@@ -143,10 +146,10 @@ class Lists(Held):
                     for squeezed in (0, rate, SQUEEZE_LIMIT):
                         self.taken(calls, FINALIZED, absorbed, squeezed, customized)
                 self.taken(calls, ABSORBING, absorbed, 0, 0)
-            # totals that come to 7 in 64 bits, with the positions of 7 bytes
+            # totals that come to 7 in 64 bits, with the positions and the permutations of 7 bytes
             for some in (8, CHUNK, CUSTOM_LIMIT):
-                self.refused_by_5(calls, CUSTOMIZING, some, 0, BIG + 8 - some, positions=(7, 0))
-                self.refused_by_5(calls, CUSTOMIZING, BIG + 8 - some, 0, some, positions=(7, 0))
+                self.refused_by_5(calls, CUSTOMIZING, some, 0, BIG + 8 - some, positions=(7, 0), permutations=0)
+                self.refused_by_5(calls, CUSTOMIZING, BIG + 8 - some, 0, some, positions=(7, 0), permutations=0)
         self.hold(calls)
 
     def test_wrong_positions(self):
