@@ -1,8 +1,9 @@
 """What any list of calls must answer: document 01's book.
 
 `Transcript`, `KtTranscript` and `DayTranscript` get the arguments of each call alone, and say its status and its bytes, and how many
-permutations the definition takes for the bytes so far (request Q-10). `Transcript` is that of every function that is the sponge alone (sponge_functions.py). model_run.py has runs with their fields, one_go.py the calls in one
-go. Written from documents 01 and 02 and the draft, never from the Rattle sources.
+permutations the definition takes for the bytes so far (request Q-10). `Transcript` is that of every function that is the sponge alone
+(sponge_functions.py). model_run.py has runs with their fields, one_go.py the calls in one go. Written from documents 01 and 02 and the
+draft, never from the Rattle sources.
 
 A KT run and a day have a customization phase (request Q-2): `customize` takes a piece of C, `finish` closes the run with the C so taken,
 `finalize` closes a run in the message phase with a whole C.
