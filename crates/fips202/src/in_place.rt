@@ -4,7 +4,6 @@ ghost use lib.ListN.{length};
 ghost use Rattle.sponge.specs.Transcript.{Call};
 ghost use Rattle.hasher.specs.Model.{answer, written, runWith, answered};
 ghost use Rattle.fips202.specs.Transcript.{sha3-224, sha3-256, sha3-384, sha3-512, shake128, shake256};
-use crate::OUTPUT_LIMIT;
 use crate::ROUNDS;
 use crate::SHA3_LAST;
 use crate::SHAKE_LAST;
@@ -14,6 +13,7 @@ use crate::Sha3_384;
 use crate::Sha3_512;
 use crate::Shake128;
 use crate::Shake256;
+use hasher::LONG_OUTPUT;
 use hasher::Moved;
 use hasher::Progress;
 use hasher::in_place;
@@ -152,7 +152,7 @@ impl Shake128 {
     pub fn absorb_in_place(lanes: &mut [u64; 25], at: Progress, piece: &[u8]) -> Moved
         ensures { λ r. ⌜ answered r (now (lanes .exit)) ≡ answer shake128 (runWith (now (lanes .entry)) at) (Call.absorb (now (piece .entry))) ⌝ }
     {
-        in_place::absorb(Self::RATE, ROUNDS, OUTPUT_LIMIT, lanes, at, piece)
+        in_place::absorb(Self::RATE, ROUNDS, LONG_OUTPUT, lanes, at, piece)
     }
 
     // Ends the message.
@@ -162,7 +162,7 @@ impl Shake128 {
         in_place::finalize(
             Self::RATE,
             ROUNDS,
-            OUTPUT_LIMIT,
+            LONG_OUTPUT,
             lanes,
             at,
             status::DONE,
@@ -175,7 +175,7 @@ impl Shake128 {
         ensures { λ r. ⌜ answered r (now (lanes .exit)) ≡ answer shake128 (runWith (now (lanes .entry)) at) (Call.squeeze (length (now (out .entry)))) ⌝ }
         ensures { λ r. ⌜ now (out .exit) ≡ written shake128 (runWith (now (lanes .entry)) at) (now (out .entry)) ⌝ }
     {
-        in_place::squeeze(Self::RATE, ROUNDS, OUTPUT_LIMIT, lanes, at, out)
+        in_place::squeeze(Self::RATE, ROUNDS, LONG_OUTPUT, lanes, at, out)
     }
 }
 
@@ -184,7 +184,7 @@ impl Shake256 {
     pub fn absorb_in_place(lanes: &mut [u64; 25], at: Progress, piece: &[u8]) -> Moved
         ensures { λ r. ⌜ answered r (now (lanes .exit)) ≡ answer shake256 (runWith (now (lanes .entry)) at) (Call.absorb (now (piece .entry))) ⌝ }
     {
-        in_place::absorb(Self::RATE, ROUNDS, OUTPUT_LIMIT, lanes, at, piece)
+        in_place::absorb(Self::RATE, ROUNDS, LONG_OUTPUT, lanes, at, piece)
     }
 
     // Ends the message.
@@ -194,7 +194,7 @@ impl Shake256 {
         in_place::finalize(
             Self::RATE,
             ROUNDS,
-            OUTPUT_LIMIT,
+            LONG_OUTPUT,
             lanes,
             at,
             status::DONE,
@@ -207,6 +207,6 @@ impl Shake256 {
         ensures { λ r. ⌜ answered r (now (lanes .exit)) ≡ answer shake256 (runWith (now (lanes .entry)) at) (Call.squeeze (length (now (out .entry)))) ⌝ }
         ensures { λ r. ⌜ now (out .exit) ≡ written shake256 (runWith (now (lanes .entry)) at) (now (out .entry)) ⌝ }
     {
-        in_place::squeeze(Self::RATE, ROUNDS, OUTPUT_LIMIT, lanes, at, out)
+        in_place::squeeze(Self::RATE, ROUNDS, LONG_OUTPUT, lanes, at, out)
     }
 }

@@ -19,7 +19,7 @@ pub const SHAKE_LAST: u8 = 0x1F;
 pub const MESSAGE_LIMIT: u64 = hasher::MESSAGE_LIMIT;
 
 // The most bytes of SHAKE's output.
-pub const OUTPUT_LIMIT: u64 = hasher::LONG_OUTPUT;
+pub const OUTPUT_LIMIT: u64 = hasher::LONG_OUTPUT as u64;
 
 // A run of SHA3-224.
 pub struct Sha3_224 {

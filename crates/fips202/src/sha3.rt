@@ -22,7 +22,7 @@ impl Sha3_224 {
     pub const CAPACITY: usize = 56;
 
     // The bytes of a digest, and the most that are read.
-    pub const DIGEST: u64 = 28;
+    pub const DIGEST: u32 = 28;
 
     // A fresh run: nothing absorbed, nothing squeezed.
     pub fn fresh() -> Self
@@ -102,7 +102,7 @@ impl Sha3_256 {
     pub const CAPACITY: usize = 64;
 
     // The bytes of a digest, and the most that are read.
-    pub const DIGEST: u64 = 32;
+    pub const DIGEST: u32 = 32;
 
     // A fresh run: nothing absorbed, nothing squeezed.
     pub fn fresh() -> Self
@@ -182,7 +182,7 @@ impl Sha3_384 {
     pub const CAPACITY: usize = 96;
 
     // The bytes of a digest, and the most that are read.
-    pub const DIGEST: u64 = 48;
+    pub const DIGEST: u32 = 48;
 
     // A fresh run: nothing absorbed, nothing squeezed.
     pub fn fresh() -> Self
@@ -262,7 +262,7 @@ impl Sha3_512 {
     pub const CAPACITY: usize = 128;
 
     // The bytes of a digest, and the most that are read.
-    pub const DIGEST: u64 = 64;
+    pub const DIGEST: u32 = 64;
 
     // A fresh run: nothing absorbed, nothing squeezed.
     pub fn fresh() -> Self

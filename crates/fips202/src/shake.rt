@@ -4,13 +4,13 @@ ghost use lib.ListN.{length};
 ghost use Rattle.sponge.specs.Transcript.{Call};
 ghost use Rattle.hasher.specs.Model.{freshOf, answer, written, oneGoStatus, oneGoOutput};
 ghost use Rattle.fips202.specs.Transcript.{shake128, shake256};
-use crate::OUTPUT_LIMIT;
 use crate::ROUNDS;
 use crate::SHAKE_LAST;
 use crate::Shake128;
 use crate::Shake128Answer;
 use crate::Shake256;
 use crate::Shake256Answer;
+use hasher::LONG_OUTPUT;
 use sponge::status;
 
 impl Shake128 {
@@ -30,7 +30,7 @@ impl Shake128 {
     pub fn absorb(self, piece: &[u8]) -> Shake128Answer
         ensures { λ r. ⌜ record { run = r .hasher .run; status = r .status } ≡ answer shake128 (self .run) (Call.absorb (now (piece .entry))) ⌝ }
     {
-        let answered = hasher::absorb(Self::RATE, ROUNDS, OUTPUT_LIMIT, self.run, piece);
+        let answered = hasher::absorb(Self::RATE, ROUNDS, LONG_OUTPUT, self.run, piece);
         let run = answered.run;
         let hasher = Shake128 { run };
         Shake128Answer {
@@ -46,7 +46,7 @@ impl Shake128 {
         let answered = hasher::finalize(
             Self::RATE,
             ROUNDS,
-            OUTPUT_LIMIT,
+            LONG_OUTPUT,
             self.run,
             status::DONE,
             SHAKE_LAST,
@@ -64,7 +64,7 @@ impl Shake128 {
         ensures { λ r. ⌜ record { run = r .hasher .run; status = r .status } ≡ answer shake128 (self .run) (Call.squeeze (length (now (out .entry)))) ⌝ }
         ensures { λ r. ⌜ now (out .exit) ≡ written shake128 (self .run) (now (out .entry)) ⌝ }
     {
-        let answered = hasher::squeeze(Self::RATE, ROUNDS, OUTPUT_LIMIT, self.run, out);
+        let answered = hasher::squeeze(Self::RATE, ROUNDS, LONG_OUTPUT, self.run, out);
         let run = answered.run;
         let hasher = Shake128 { run };
         Shake128Answer {
@@ -81,7 +81,7 @@ impl Shake128 {
         hasher::hash(
             Self::RATE,
             ROUNDS,
-            OUTPUT_LIMIT,
+            LONG_OUTPUT,
             message,
             status::DONE,
             SHAKE_LAST,
@@ -107,7 +107,7 @@ impl Shake256 {
     pub fn absorb(self, piece: &[u8]) -> Shake256Answer
         ensures { λ r. ⌜ record { run = r .hasher .run; status = r .status } ≡ answer shake256 (self .run) (Call.absorb (now (piece .entry))) ⌝ }
     {
-        let answered = hasher::absorb(Self::RATE, ROUNDS, OUTPUT_LIMIT, self.run, piece);
+        let answered = hasher::absorb(Self::RATE, ROUNDS, LONG_OUTPUT, self.run, piece);
         let run = answered.run;
         let hasher = Shake256 { run };
         Shake256Answer {
@@ -123,7 +123,7 @@ impl Shake256 {
         let answered = hasher::finalize(
             Self::RATE,
             ROUNDS,
-            OUTPUT_LIMIT,
+            LONG_OUTPUT,
             self.run,
             status::DONE,
             SHAKE_LAST,
@@ -141,7 +141,7 @@ impl Shake256 {
         ensures { λ r. ⌜ record { run = r .hasher .run; status = r .status } ≡ answer shake256 (self .run) (Call.squeeze (length (now (out .entry)))) ⌝ }
         ensures { λ r. ⌜ now (out .exit) ≡ written shake256 (self .run) (now (out .entry)) ⌝ }
     {
-        let answered = hasher::squeeze(Self::RATE, ROUNDS, OUTPUT_LIMIT, self.run, out);
+        let answered = hasher::squeeze(Self::RATE, ROUNDS, LONG_OUTPUT, self.run, out);
         let run = answered.run;
         let hasher = Shake256 { run };
         Shake256Answer {
@@ -158,7 +158,7 @@ impl Shake256 {
         hasher::hash(
             Self::RATE,
             ROUNDS,
-            OUTPUT_LIMIT,
+            LONG_OUTPUT,
             message,
             status::DONE,
             SHAKE_LAST,

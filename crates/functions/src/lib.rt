@@ -16,6 +16,7 @@ use fips202::Sha3_512;
 use fips202::Shake128;
 use fips202::Shake256;
 use hasher::Answer;
+use hasher::LONG_OUTPUT;
 use hasher::Run;
 use sponge::status::DONE;
 use turboshake::TurboShake128;
@@ -26,7 +27,7 @@ use turboshake::TurboShake256;
 pub struct Function {
     pub rate: usize,
     pub rounds: usize,
-    pub limit: u64,
+    pub limit: u32,
     pub domain: bool,
     pub last: u8,
 }
@@ -43,13 +44,13 @@ fn turboshake(rate: usize) -> Function
     Function {
         rate,
         rounds: turboshake::ROUNDS,
-        limit: turboshake::OUTPUT_LIMIT,
+        limit: LONG_OUTPUT,
         domain: true,
         last: 0,
     }
 }
 
-fn fips202(rate: usize, last: u8, limit: u64) -> Function
+fn fips202(rate: usize, last: u8, limit: u32) -> Function
     ensures { λ r. ⌜ r ≡ withLast (fips.function rate last limit) ⌝ }
 {
     Function {
@@ -100,13 +101,13 @@ pub fn sha3_512() -> Function
 pub fn shake128() -> Function
     ensures { λ r. ⌜ r ≡ withLast fips.shake128 ⌝ }
 {
-    fips202(Shake128::RATE, fips202::SHAKE_LAST, fips202::OUTPUT_LIMIT)
+    fips202(Shake128::RATE, fips202::SHAKE_LAST, LONG_OUTPUT)
 }
 
 pub fn shake256() -> Function
     ensures { λ r. ⌜ r ≡ withLast fips.shake256 ⌝ }
 {
-    fips202(Shake256::RATE, fips202::SHAKE_LAST, fips202::OUTPUT_LIMIT)
+    fips202(Shake256::RATE, fips202::SHAKE_LAST, LONG_OUTPUT)
 }
 
 fn closing(function: Function, domain: u8) -> Ending

@@ -2,12 +2,15 @@
 -- Assumes nothing.
 use mathlib.Core.Path.{_≡_, refl, sym, ap, _∙_}
 use mathlib.Core.List.{List, [], _∷_, _++_}
+use mathlib.Core.Bool.{Bool, cond}
 use Prim.Native.Nat.{ℕ, suc, _+_, _-_, _≤_}
 use native.Mathlib.Omega.{arith}
 use lib.ListN.{length, take, length-append}
+use lib.Dec.{eqb}
 use lib.Seq.{take-append-seam}
-use Rattle.sponge.specs.Model.{Sponge}
-use Rattle.sponge.specs.Transcript.{Call, Call.absorb, Call.squeeze, Transcript, Reply, lent}
+use borrow.Author.Tests.{eq-eqb, ne-eqb}
+use Rattle.sponge.specs.Count.{Counted, openCount, closedCount}
+use Rattle.sponge.specs.Transcript.{Call, Call.absorb, Call.squeeze, phaseNumber, Transcript, Reply, lent}
 use Rattle.sponge.specs.Runs as runs
 use Rattle.sponge.specs.Runs.{freshRun, perform, runOf}
 use Rattle.sponge.specs.Streaming as streaming
@@ -15,18 +18,19 @@ use Rattle.sponge.specs.Streaming.{History, history, joined}
 use Rattle.sponge.proofs.Corollaries.{history-held}
 use Rattle.sponge.proofs.Reachable as generic
 use Rattle.sponge.proofs.Done as done
+use Rattle.sponge.proofs.Count.{open-words, closed-words}
 use Rattle.hasher.specs.Function.{Function, output, rules}
 use Rattle.hasher.specs.Model.{machine, seen, held, freshOf, performOf, writtenOf, answer, written, replyOf, progressOf, runWith, oneGoStatus, oneGoOutput}
-use Rattle.hasher.specs.Claims.{Lent, lentRun, freshLent, Meets, told, ran, Streaming, Promised, Calls, Joins, Callable, Reached, Five, OneGo, Claims}
+use Rattle.hasher.specs.Claims.{Lent, lentRun, freshLent, Meets, told, ran, Streaming, Counts, Promised, Calls, Joins, Callable, Reached, Five, OneGo, Claims}
 use Rattle.hasher.specs.declared.Run.{Run}
 use Rattle.hasher.specs.declared.Answer.{Answer}
 use Rattle.hasher.proofs.Guards.{answer-is, output-is, answer-same, written-same}
 use Rattle.hasher.proofs.OneGo.{at-lent}
-use Rattle.hasher.proofs.Laws.{positions, first-is, laws, stays}
-use Rattle.hasher.proofs.Streaming.{positive, corollaries}
+use Rattle.hasher.proofs.Laws.{positions, first-is, second-is as number-is, pair, laws, stays}
+use Rattle.hasher.proofs.Streaming.{positive, corollaries, count-defined, count-told}
 
 -- a reply of the machine on the code's structs
-abbrev pub replied : Reply (runs.Run Sponge) → Answer
+abbrev pub replied : Reply (runs.Run Counted) → Answer
 replied y = record { run = held (y .left); status = y .status }
 
 module _ {A : Type 0} (F : Function A) (E : Meets F) where
@@ -89,8 +93,30 @@ module _ {A : Type 0} (F : Function A) (E : Meets F) where
         phase = ap (λ (r : Run). r .phase) (run-told cs);
         absorbed = ap (λ (r : Run). r .absorbed) (run-told cs);
         squeezed = ap (λ (r : Run). r .squeezed) (run-told cs);
+        permutations = ap (λ (r : Run). r .permutations) (run-told cs) ∙ count-defined F E cs;
         output = ap (λ (h : History Run). joined (h .bytes)) (ran-held cs) ∙ s .output;
       }
+
+  pub counts : (cs : List (Call A)) → Counts F cs
+  counts cs = record {
+    while-absorbing = λ e. told-due ∙ ap (λ (b : Bool). cond b (openCount (F .rate) m) (closedCount (F .rate) m k)) (eq-eqb h 0 (sym told-phase ∙ e)) ∙ open-words (F .rate) (positive F E) m;
+    once-squeezing = λ e. told-due ∙ ap (λ (b : Bool). cond b (openCount (F .rate) m) (closedCount (F .rate) m k)) (ne-eqb h 0 (λ z. let o = sym told-phase ∙ e in omega arith)) ∙ closed-words (F .rate) (positive F E) m k;
+  }
+    where
+      m : ℕ
+      m = length (told F cs .left .absorbed)
+
+      k : ℕ
+      k = told F cs .left .squeezed
+
+      h : ℕ
+      h = phaseNumber (told F cs .left .phase)
+
+      told-phase : ran F cs .left .phase ≡ h
+      told-phase = ap (λ (r : Run). r .phase) (run-told cs)
+
+      told-due : ran F cs .left .permutations ≡ cond (eqb h 0) (openCount (F .rate) m) (closedCount (F .rate) m k)
+      told-due = ap (λ (r : Run). r .permutations) (run-told cs) ∙ count-told F E cs
 
   equal-transcripts : (cs ds : List (Call A)) → told F cs .left ≡ told F ds .left → ran F cs .left ≡ ran F ds .left
   equal-transcripts cs ds e = run-told cs ∙ ap (λ (t : Transcript A). held (runOf (rules F) (machine F) t)) e ∙ sym (run-told ds)
@@ -131,10 +157,10 @@ module _ {A : Type 0} (F : Function A) (E : Meets F) where
 
   -- the machine's two squeezes are the joined one: so are the answers, and what is written
   module _ (r : Run) (x y : List ℕ) where
-    abbrev middle : runs.Run Sponge
+    abbrev middle : runs.Run Counted
     middle = perform (rules F) (machine F) (seen r) (squeeze (length x)) .left
 
-    abbrev both : Reply (runs.Run Sponge)
+    abbrev both : Reply (runs.Run Counted)
     both = record {
       status = perform (rules F) (machine F) middle (squeeze (length y)) .status;
       bytes = perform (rules F) (machine F) (seen r) (squeeze (length x)) .bytes ++ perform (rules F) (machine F) middle (squeeze (length y)) .bytes;
@@ -147,11 +173,11 @@ module _ {A : Type 0} (F : Function A) (E : Meets F) where
         × (written F r x ++ written F (answer F r (squeeze (length x)) .run) y ≡ written F r (x ++ y))
     squeeze-both e f w =
         let z : both ≡ perform (rules F) (machine F) (seen r) (squeeze (length (x ++ y))) = w ∙ ap (λ (k : ℕ). perform (rules F) (machine F) (seen r) (squeeze k)) (sym (length-append x y)) in
-        let g : perform (rules F) (machine F) (seen r) (squeeze (length (x ++ y))) .status ≡ 0 = sym (ap (λ (o : Reply (runs.Run Sponge)). o .status) z) ∙ f in
+        let g : perform (rules F) (machine F) (seen r) (squeeze (length (x ++ y))) .status ≡ 0 = sym (ap (λ (o : Reply (runs.Run Counted)). o .status) z) ∙ f in
         let second : written F (answer F r (squeeze (length x)) .run) y ≡ perform (rules F) (machine F) middle (squeeze (length y)) .bytes =
         ap (λ (q : Run). written F q y) (run-is r (squeeze (length x))) ∙ written-done (held middle) y f in (
           second-is r (squeeze (length x)) (squeeze (length y)) ∙ ap replied z ∙ sym (answer-replied r (squeeze (length (x ++ y)))),
-          (λ i. written-done r x e i ++ second i) ∙ ap (λ (o : Reply (runs.Run Sponge)). o .bytes) z ∙ sym (written-done r (x ++ y) g),
+          (λ i. written-done r x e i ++ second i) ∙ ap (λ (o : Reply (runs.Run Counted)). o .bytes) z ∙ sym (written-done r (x ++ y) g),
         )
 
   joins : Joins F
@@ -179,7 +205,7 @@ module _ {A : Type 0} (F : Function A) (E : Meets F) where
       parts r x y e =
           let g : perform (rules F) (machine F) (seen r) (squeeze (length x + length y)) .status ≡ 0 = rw (length-append x y) at (first-done r (squeeze (length (x ++ y))) e) in
           let w = done.squeeze-parts (rules F) (machine F) (laws F (positive F E)) (stays F (positive F E)) (seen r) (length x) (length y) g in
-          squeeze-both r x y (done.part-done (rules F) (machine F) (seen r) (length x) (length y) g) (ap (λ (o : Reply (runs.Run Sponge)). o .status) w ∙ g) w
+          squeeze-both r x y (done.part-done (rules F) (machine F) (seen r) (length x) (length y) g) (ap (λ (o : Reply (runs.Run Counted)). o .status) w ∙ g) w
 
   -- ---- status 5
 
@@ -197,7 +223,7 @@ module _ {A : Type 0} (F : Function A) (E : Meets F) where
         absorbed-is = sym (ap (λ (q : Run). q .absorbed) (left-is cs)) ∙ g .absorbed-is;
         customized-is = refl;
         squeezed-is = sym (ap (λ (q : Run). q .squeezed) (left-is cs)) ∙ g .squeezed-is;
-        positions-are = ap (λ (n : ℕ). n ∷ []) (sym (ap (λ (q : Run). q .position) (left-is cs)) ∙ g .position-is);
+        positions-are = pair (sym (ap (λ (q : Run). q .position) (left-is cs)) ∙ g .position-is) (sym (ap (λ (q : Run). q .permutations) (left-is cs)) ∙ g .permutations-is);
       }
 
   to-code : (r : Run) → generic.Reached (rules F) (machine F) positions (Callable F) (seen r) → Reached F r
@@ -209,7 +235,8 @@ module _ {A : Type 0} (F : Function A) (E : Meets F) where
         phase-is = ap (λ (q : Run). q .phase) (left-is cs) ∙ g .phase-is;
         absorbed-is = ap (λ (q : Run). q .absorbed) (left-is cs) ∙ g .absorbed-is;
         squeezed-is = ap (λ (q : Run). q .squeezed) (left-is cs) ∙ g .squeezed-is;
-        position-is = ap (λ (q : Run). q .position) (left-is cs) ∙ first-is _ _ (g .positions-are);
+        position-is = ap (λ (q : Run). q .position) (left-is cs) ∙ first-is _ _ _ _ (g .positions-are);
+        permutations-is = ap (λ (q : Run). q .permutations) (left-is cs) ∙ number-is _ _ _ _ (g .positions-are);
       }
 
   five : Five F
@@ -237,7 +264,7 @@ module _ {A : Type 0} (F : Function A) (E : Meets F) where
   unfolding rules
   shorter m a k n l =
       let L = laws F (positive F E) in
-      let s : Sponge = machine F .finalize (length m) (machine F .absorb 0 (machine F .fresh) m) a in
+      let s : Counted = machine F .finalize (length m) (machine F .absorb 0 (machine F .fresh) m) a in
       let e : n ≡ k + (n - k) = omega arith in
       let w : output F m a n ≡ machine F .squeeze k s ++ machine F .squeeze (n - k) (machine F .after k s) = sym (L .squeeze-output m a n) ∙ ap (λ (j : ℕ). machine F .squeeze j s) e ∙ L .squeeze-add k (n - k) s in
       let first : take k (machine F .squeeze k s ++ machine F .squeeze (n - k) (machine F .after k s)) ≡ machine F .squeeze k s =
@@ -245,4 +272,4 @@ module _ {A : Type 0} (F : Function A) (E : Meets F) where
       sym (L .squeeze-output m a k) ∙ sym first ∙ ap (take k) (sym w)
 
   pub claims : Claims F
-  claims = record { streaming = streams; streaming-lent = streams-lent; equal-transcripts = equal-transcripts; calls = calls; joins = joins; five = five; one-go = one-go; shorter = shorter }
+  claims = record { streaming = streams; counts = counts; streaming-lent = streams-lent; equal-transcripts = equal-transcripts; calls = calls; joins = joins; five = five; one-go = one-go; shorter = shorter }

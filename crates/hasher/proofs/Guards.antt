@@ -9,7 +9,8 @@ use lib.ListN.{length}
 use Rattle.sponge.specs.Transcript.{Call, Call.absorb, Call.customize, Call.finalize, Call.finish, Call.squeeze, Reply, lent}
 use Rattle.sponge.specs.Runs as runs
 use Rattle.sponge.specs.Runs.{perform}
-use Rattle.sponge.specs.Model.{Sponge, callStatus}
+use Rattle.sponge.specs.Count.{Counted}
+use Rattle.sponge.specs.Model.{callStatus}
 use Rattle.sponge.proofs.Valid.{taken-fits, taken-rounds}
 use Rattle.sponge.proofs.Joining.{perform-is}
 use Rattle.hasher.specs.Function.{Function, rules}
@@ -64,8 +65,8 @@ module _ {A : Type 0} (F : Function A) where
 
   pub answer-same : (r : Run) (c : Call A) → answer F r c ≡ answerOf F r c
   unfolding answerOf performOf
-  answer-same r c = ap (λ (y : Reply (runs.Run Sponge)). guarded (callStatus (F .rounds) (F .rate) 0) (record { run = held (y .left); status = y .status }) r) (same-performed r c)
+  answer-same r c = ap (λ (y : Reply (runs.Run Counted)). guarded (callStatus (F .rounds) (F .rate) 0) (record { run = held (y .left); status = y .status }) r) (same-performed r c)
 
   pub written-same : (r : Run) (out : List ℕ) → written F r out ≡ outputOf F r out
   unfolding outputOf writtenOf
-  written-same r out = ap (λ (y : Reply (runs.Run Sponge)). lent (callStatus (F .rounds) (F .rate) 0) (lent (y .status) (y .bytes) out) out) (same-performed r (squeeze (length out)))
+  written-same r out = ap (λ (y : Reply (runs.Run Counted)). lent (callStatus (F .rounds) (F .rate) 0) (lent (y .status) (y .bytes) out) out) (same-performed r (squeeze (length out)))

@@ -4,7 +4,7 @@ use mathlib.Core.Path.{_≡_, refl, sym, ap, _∙_}
 use mathlib.Core.List.{List, [], _++_}
 use Prim.Native.Nat.{ℕ, _≤_, _<_}
 use lib.ListN.{length}
-use Rattle.sponge.specs.Model.{Sponge}
+use Rattle.sponge.specs.Count.{Counted}
 use Rattle.sponge.specs.Transcript.{Call.absorb, Call.finalize, Call.squeeze, Reply, lent}
 use Rattle.sponge.specs.Runs as runs
 use Rattle.sponge.proofs.Pieces as pieces
@@ -48,8 +48,8 @@ module _ {A : Type 0} (F : Function A) where
     unfolding finalizedRun rules
     squeeze-run m a out h t l =
         let e = pieces.squeeze-run (rules F) (machine F) (laws F (positive F E)) m a (length out) h t l in (
-          ap (λ (x : Answer). x .status) (answer-replied F E (finalizedRun m a) (squeeze (length out))) ∙ ap (λ (y : Reply (runs.Run Sponge)). y .status) e,
-          written-lent F E (finalizedRun m a) out ∙ ap (λ (y : Reply (runs.Run Sponge)). lent (y .status) (y .bytes) out) e,
+          ap (λ (x : Answer). x .status) (answer-replied F E (finalizedRun m a) (squeeze (length out))) ∙ ap (λ (y : Reply (runs.Run Counted)). y .status) e,
+          written-lent F E (finalizedRun m a) out ∙ ap (λ (y : Reply (runs.Run Counted)). lent (y .status) (y .bytes) out) e,
         )
 
     pub squeeze-long : (m : List ℕ) (a : A) (out : List ℕ) → length m ≤ messageLimit → F .argument a ≡ 0 → F .outputLimit < length out
@@ -57,6 +57,6 @@ module _ {A : Type 0} (F : Function A) where
     unfolding finalizedRun rules
     squeeze-long m a out h t l =
         let e = pieces.squeeze-long (rules F) (machine F) (laws F (positive F E)) m a (length out) h t l in (
-          ap (λ (x : Answer). x .status) (answer-replied F E (finalizedRun m a) (squeeze (length out))) ∙ ap (λ (y : Reply (runs.Run Sponge)). y .status) e,
-          written-lent F E (finalizedRun m a) out ∙ ap (λ (y : Reply (runs.Run Sponge)). lent (y .status) (y .bytes) out) e,
+          ap (λ (x : Answer). x .status) (answer-replied F E (finalizedRun m a) (squeeze (length out))) ∙ ap (λ (y : Reply (runs.Run Counted)). y .status) e,
+          written-lent F E (finalizedRun m a) out ∙ ap (λ (y : Reply (runs.Run Counted)). lent (y .status) (y .bytes) out) e,
         )

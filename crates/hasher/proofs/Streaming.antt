@@ -2,16 +2,25 @@
 -- code's runs.
 -- Assumes nothing.
 use mathlib.Core.Path.{_≡_, refl}
+use mathlib.Core.Bool.{cond}
+use mathlib.Core.List.{List}
 use Prim.Native.Nat.{ℕ, _<_, _≤_}
 use native.Mathlib.Omega.{arith}
+use lib.Dec.{eqb}
+use lib.ListN.{length}
+use Rattle.sponge.specs.Transcript.{Call, Phase, Phase.absorbing, Phase.customizing, Phase.squeezing, phaseNumber, Transcript}
+use Rattle.sponge.specs.Runs.{runOf}
+use Rattle.sponge.specs.Streaming.{told}
+use Rattle.sponge.specs.Count.{openCount, closedCount}
 use Rattle.sponge.proofs.Valid.{taken-fits}
+use Rattle.sponge.proofs.Streaming.{Fits, told-fits}
 use Rattle.sponge.proofs.Corollaries as generic
 use Rattle.sponge.proofs.Corollaries.{Corollaries}
 use Rattle.sponge.proofs.Reachable.{Statuses}
-use Rattle.hasher.specs.Function.{Function, rules}
+use Rattle.hasher.specs.Function.{Function, rules, permutationsOf}
 use Rattle.hasher.specs.Model.{machine}
 use Rattle.hasher.specs.Claims.{Meets, Callable}
-use Rattle.hasher.proofs.Laws.{positions, due, shape, shaped, laws, stays}
+use Rattle.hasher.proofs.Laws.{positions, due, second-is, shape, shaped, laws, stays}
 
 -- no customization bytes are counted
 none-counted : (m : ℕ) → m ≤ 0 → 0 ≡ m
@@ -42,3 +51,25 @@ module _ {A : Type 0} (F : Function A) (E : Meets F) where
 
   pub corollaries : Corollaries (rules F) (machine F) positions (Callable F)
   corollaries = generic.corollaries (rules F) (machine F) (laws F positive) (stays F positive) positions (due (F .rate)) (shape F) (shaped F) (Callable F) statuses
+
+  -- ---- the permutations of the run that a transcript tells of: the definition's, and what the totals tell
+
+  count-by : (f : List ℕ) (h : Phase A) (n : ℕ) → Fits (rules F) (record { absorbed = f; phase = h; squeezed = n })
+      → runOf (rules F) (machine F) (record { absorbed = f; phase = h; squeezed = n }) .state .value .1 ≡ permutationsOf F (record { absorbed = f; phase = h; squeezed = n })
+  unfolding rules machine
+  count-by f absorbing n t = refl
+  count-by f (customizing c) n t = absurd (t .phase-taken)
+  count-by f (squeezing a) n t = refl
+
+  fits-told : (cs : List (Call A)) → Fits (rules F) (told (rules F) (machine F) cs .left)
+  fits-told cs = told-fits (rules F) (machine F) (laws F positive) cs
+
+  pub count-defined : (cs : List (Call A)) → runOf (rules F) (machine F) (told (rules F) (machine F) cs .left) .state .value .1 ≡ permutationsOf F (told (rules F) (machine F) cs .left)
+  count-defined cs = let t : Transcript A = told (rules F) (machine F) cs .left in count-by (t .absorbed) (t .phase) (t .squeezed) (fits-told cs)
+
+  pub count-told : (cs : List (Call A))
+      → runOf (rules F) (machine F) (told (rules F) (machine F) cs .left) .state .value .1
+      ≡ cond (eqb (phaseNumber (told (rules F) (machine F) cs .left .phase)) 0) (openCount (F .rate) (length (told (rules F) (machine F) cs .left .absorbed))) (closedCount (F .rate) (length (told (rules F) (machine F) cs .left .absorbed)) (told (rules F) (machine F) cs .left .squeezed))
+  count-told cs =
+      let t : Transcript A = told (rules F) (machine F) cs .left in
+      second-is _ _ _ _ (shape F (runOf (rules F) (machine F) t) (laws F positive .run-reachable t (fits-told cs)) .positions-due)

@@ -9,10 +9,12 @@ use Rattle.sponge.specs.Status.{unreachable}
 use Rattle.sponge.specs.Callable.{Slice, All}
 use Rattle.sponge.specs.Transcript.{Call, Call.absorb, Call.customize, Call.finalize, Call.finish, Call.squeeze, phaseNumber, Transcript, freshTranscript, transcribe, Reply}
 use Rattle.sponge.specs.Transcript as transcript
+use Rattle.sponge.specs.Cut.{ceil}
 use Rattle.sponge.specs.Model.{callStatus}
+use Rattle.sponge.specs.Count.{readCount}
 use Rattle.sponge.specs.Runs.{runOf}
 use Rattle.sponge.specs.Streaming.{History, history, joined}
-use Rattle.hasher.specs.Function.{Function, output, rules}
+use Rattle.hasher.specs.Function.{Function, output, rules, permutationsOf}
 use Rattle.hasher.specs.Model.{machine, held, freshOf, answer, written, replyOf, progressOf, runWith, answered, oneGoStatus, oneGoOutput}
 use Rattle.hasher.specs.declared.Run.{Run}
 use Rattle.hasher.specs.declared.Progress.{Progress}
@@ -50,7 +52,7 @@ module _ {A : Type 0} (F : Function A) where
   ran cs = history (replyOf F) freshOf cs
 
   -- the list theorem: each status and the bytes of each call, refused ones too, are the transcript's; the run left is the one that the transcript
-  -- tells of, with its phase and totals; the bytes joined are the first bytes of the published output
+  -- tells of, with its phase and totals, and its permutations are the definition's; the bytes joined are the first bytes of the published output
   pub record Streaming (cs : List (Call A)) : Type 0 where
     pub statuses : ran cs .statuses ≡ told cs .statuses
     pub bytes : ran cs .bytes ≡ told cs .bytes
@@ -58,7 +60,15 @@ module _ {A : Type 0} (F : Function A) where
     pub phase : ran cs .left .phase ≡ phaseNumber (told cs .left .phase)
     pub absorbed : ran cs .left .absorbed ≡ length (told cs .left .absorbed)
     pub squeezed : ran cs .left .squeezed ≡ told cs .left .squeezed
+    pub permutations : ran cs .left .permutations ≡ permutationsOf F (told cs .left)
     pub output : joined (ran cs .bytes) ≡ transcript.outputOf (rules F) (told cs .left) (told cs .left .squeezed)
+
+  -- the permutations of the run that a list leaves, in the words of request Q-10: of m bytes absorbed ceil(m / rate) - 1, or 0 when m is 0, since a full
+  -- block waits for its next byte; once closed ceil((m + 1) / rate), and of n bytes squeezed ceil(n / rate) - 1 more, or 0 when n is 0
+  pub record Counts (cs : List (Call A)) : Type 0 where
+    pub while-absorbing : ran cs .left .phase ≡ 0 → ran cs .left .permutations ≡ readCount (F .rate) (length (told cs .left .absorbed))
+    pub once-squeezing : ran cs .left .phase ≡ 1
+        → ran cs .left .permutations ≡ ceil (F .rate) (length (told cs .left .absorbed) + 1) + readCount (F .rate) (told cs .left .squeezed)
 
   -- what the contracts on lent lanes promise of f, which does a call so: status, lanes and what is held beside them are those of the answer on the run of
   -- both, and the bytes are those that are given
@@ -107,7 +117,7 @@ module _ {A : Type 0} (F : Function A) where
   Callable finish = ⊥
   Callable (squeeze k) = k < 2 ^ 63
 
-  -- a list of such calls leaves r's phase, totals and position
+  -- a list of such calls leaves r's phase, totals, position and permutations
   pub record Reached (r : Run) : Type 0 where
     pub calls : List (Call A)
     pub callable : All Callable calls
@@ -115,6 +125,7 @@ module _ {A : Type 0} (F : Function A) where
     pub absorbed-is : ran calls .left .absorbed ≡ r .absorbed
     pub squeezed-is : ran calls .left .squeezed ≡ r .squeezed
     pub position-is : ran calls .left .position ≡ r .position
+    pub permutations-is : ran calls .left .permutations ≡ r .permutations
 
   -- 5 exactly where there is none; and where it is another status, here is one
   pub record Five : Type 0 where
@@ -133,6 +144,7 @@ module _ {A : Type 0} (F : Function A) where
 
   pub record Claims : Type 0 where
     pub streaming : (cs : List (Call A)) → Streaming cs
+    pub counts : (cs : List (Call A)) → Counts cs
     -- on lent lanes a list of calls has the statuses, the bytes and the run of `ran`, of which `streaming` speaks
     pub streaming-lent : (f : Lent → Call A → Reply Lent) → Promised f → (cs : List (Call A))
         → ran cs ≡ record { statuses = history f freshLent cs .statuses; bytes = history f freshLent cs .bytes; left = lentRun (history f freshLent cs .left) }

@@ -3,9 +3,12 @@
 use mathlib.Core.List.{List}
 use Prim.Native.Nat.{ℕ}
 use Rattle.keccak.specs.Permutation.{lastRounds}
-use Rattle.sponge.specs.Published.{sponge}
+use Rattle.sponge.specs.Waiting.{steps}
+use Rattle.sponge.specs.Published.{xorByte, sponge}
 use Rattle.sponge.specs.Status.{done}
-use Rattle.sponge.specs.Transcript.{Customization.none, Rules}
+use Rattle.sponge.specs.Transcript.{Customization.none, Rules, Phase.absorbing, Phase.customizing, Phase.squeezing, Transcript}
+use Rattle.sponge.specs.Model.{padWith, afterBytes}
+use Rattle.sponge.specs.Count.{counted, uncounted, Counted, freshCounted}
 
 -- the most bytes of a message, 2^34 - 1 (request Q-2)
 abbrev pub messageLimit : ℕ
@@ -42,3 +45,15 @@ module _ {A : Type 0} (F : Function A) where
     inputLimit = messageLimit;
     outputLimit = F .outputLimit;
   }
+
+  -- ---- the permutations of the definition so far (request Q-10): the bytes joined go through the sponge that counts, and no total is looked at
+
+  abbrev pub absorbedCounted : List ℕ → Counted
+  absorbedCounted m = steps (counted permutation) (uncounted xorByte) (F .rate) freshCounted m
+
+  abbrev pub squeezedCounted : List ℕ → A → ℕ → Counted
+  squeezedCounted m a n = afterBytes (counted permutation) (F .rate) n (padWith (counted permutation) (F .rate) (uncounted xorByte) (absorbedCounted m) (F .byte a))
+
+  -- there is no customization phase, and so no permutation in one
+  abbrev pub permutationsOf : Transcript A → ℕ
+  permutationsOf t = elim (t .phase) [ absorbing ↦ absorbedCounted (t .absorbed) .value .1 | customizing c ↦ 0 | squeezing a ↦ squeezedCounted (t .absorbed) a (t .squeezed) .value .1 ]

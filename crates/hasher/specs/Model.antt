@@ -6,9 +6,10 @@ use Prim.Native.Nat.{ℕ, zero, suc}
 use lib.ListN.{length}
 use lib.Dec.{eqb, leb}
 use Rattle.keccak.specs.Permutation.{lastRounds}
-use Rattle.sponge.specs.Waiting.{positionAfter}
-use Rattle.sponge.specs.Published.{sponge}
-use Rattle.sponge.specs.Model.{Sponge, fresh, absorbBytes, pad, squeezeBytes, afterBytes, callStatus}
+use Rattle.sponge.specs.Waiting.{steps, positionAfter}
+use Rattle.sponge.specs.Published.{xorByte, sponge}
+use Rattle.sponge.specs.Model.{fresh, padWith, squeezeBytes, afterBytes, callStatus}
+use Rattle.sponge.specs.Count.{counted, uncounted, Counted, spongeOf, freshCounted, openCount, closedCount}
 use Rattle.sponge.specs.Status.{done, inputTooLong, outputTooLong, badLength, firstOf}
 use Rattle.sponge.specs.Transcript.{Call, Call.absorb, Call.customize, Call.finalize, Call.finish, Call.squeeze, Reply, lent}
 use Rattle.sponge.specs.Runs as runs
@@ -20,39 +21,40 @@ use Rattle.hasher.specs.declared.Moved.{Moved}
 use Rattle.hasher.specs.declared.Answer.{Answer}
 
 -- what a run reached from a fresh one has: in phase 0 nothing is squeezed and the position is the one after the bytes absorbed, in phase 1
--- after the bytes squeezed; lanes are not looked at
-unfoldable pub reachable : ℕ → ℕ → ℕ → ℕ → ℕ → ℕ → Bool
-reachable rate limit position phase absorbed squeezed =
+-- after the bytes squeezed; the permutations are those of the totals; lanes are not looked at
+unfoldable pub reachable : ℕ → ℕ → ℕ → ℕ → ℕ → ℕ → ℕ → Bool
+reachable rate limit position phase absorbed squeezed permutations =
     leb absorbed messageLimit
-    && cond (eqb phase 0) (eqb squeezed 0 && eqb position (positionAfter rate absorbed))
-    (eqb phase 1 && (leb squeezed limit && eqb position (positionAfter rate squeezed)))
+    && cond (eqb phase 0) (eqb squeezed 0 && (eqb position (positionAfter rate absorbed) && eqb permutations (openCount rate absorbed)))
+    (eqb phase 1 && (leb squeezed limit && (eqb position (positionAfter rate squeezed) && eqb permutations (closedCount rate absorbed squeezed))))
 
--- what becomes of a sponge, and the test of status 5. There is no customization phase: a call of one is refused, and so does nothing
+-- what becomes of a sponge whose permutations are counted, and the test of status 5. There is no customization phase: a call of one is refused, and
+-- so does nothing
 module _ {A : Type 0} (F : Function A) where
-  unfoldable pub machine : Machine Sponge A
+  unfoldable pub machine : Machine Counted A
   machine = record {
-    fresh = fresh;
-    absorb = λ n s p. absorbBytes (permutation F) (F .rate) s p;
+    fresh = freshCounted;
+    absorb = λ n s p. steps (counted (permutation F)) (uncounted xorByte) (F .rate) s p;
     customize = λ n s p. s;
-    finalize = λ n s a. pad (permutation F) (F .rate) s (F .byte a);
+    finalize = λ n s a. padWith (counted (permutation F)) (F .rate) (uncounted xorByte) s (F .byte a);
     finish = λ n s. s;
-    squeeze = squeezeBytes (permutation F) (F .rate);
-    after = afterBytes (permutation F) (F .rate);
+    squeeze = λ k s. squeezeBytes (permutation F) (F .rate) k (spongeOf s);
+    after = afterBytes (counted (permutation F)) (F .rate);
     customized = λ s. 0;
-    reachable = λ r. reachable (F .rate) (F .outputLimit) (r .state .position) (r .phase) (r .absorbed) (r .squeezed);
+    reachable = λ r. reachable (F .rate) (F .outputLimit) (r .state .position) (r .phase) (r .absorbed) (r .squeezed) (r .state .value .1);
   }
 
 -- ---- the code's structs
 
 -- a run as the theorem sees it, and back
-abbrev pub seen : Run → runs.Run Sponge
-seen r = record { state = record { value = r .lanes; position = r .position }; phase = r .phase; absorbed = r .absorbed; squeezed = r .squeezed }
+abbrev pub seen : Run → runs.Run Counted
+seen r = record { state = record { value = (r .lanes, r .permutations); position = r .position }; phase = r .phase; absorbed = r .absorbed; squeezed = r .squeezed }
 
-abbrev pub held : runs.Run Sponge → Run
-held r = record { lanes = r .state .value; position = r .state .position; phase = r .phase; absorbed = r .absorbed; squeezed = r .squeezed }
+abbrev pub held : runs.Run Counted → Run
+held r = record { lanes = r .state .value .0; position = r .state .position; phase = r .phase; absorbed = r .absorbed; squeezed = r .squeezed; permutations = r .state .value .1 }
 
 unfoldable pub freshOf : Run
-freshOf = record { lanes = fresh .value; position = 0; phase = 0; absorbed = 0; squeezed = 0 }
+freshOf = record { lanes = fresh .value; position = 0; phase = 0; absorbed = 0; squeezed = 0; permutations = 0 }
 
 -- a call refused before the run is looked at, where n is not 0
 abbrev pub guarded : ℕ → Answer → Run → Answer
@@ -112,10 +114,10 @@ module _ {A : Type 0} (F : Function A) where
 -- ---- a run as lanes that are lent, and what it holds beside them
 
 abbrev pub progressOf : Run → Progress
-progressOf r = record { position = r .position; phase = r .phase; absorbed = r .absorbed; squeezed = r .squeezed }
+progressOf r = record { position = r .position; phase = r .phase; absorbed = r .absorbed; squeezed = r .squeezed; permutations = r .permutations }
 
 abbrev pub runWith : List ℕ → Progress → Run
-runWith lanes at = record { lanes = lanes; position = at .position; phase = at .phase; absorbed = at .absorbed; squeezed = at .squeezed }
+runWith lanes at = record { lanes = lanes; position = at .position; phase = at .phase; absorbed = at .absorbed; squeezed = at .squeezed; permutations = at .permutations }
 
 -- the answer of a call on lent lanes: what it answers, and the lanes that it leaves
 abbrev pub answered : Moved → List ℕ → Answer

@@ -1,10 +1,14 @@
 // The calls on a run, and in one go, over the rate, the rounds and the most bytes of output.
 ghost use mathlib.Core.Path.{_≡_};
-ghost use Prim.Native.Nat.{_<_, _≤_};
+ghost use mathlib.Core.Bool.{cond};
+ghost use Prim.Native.Nat.{suc, _+_, _/_, _<_, _≤_};
+ghost use lib.Dec.{eqb};
 ghost use lib.ListN.{length};
 ghost use Rattle.sponge.specs.Waiting.{positionAfter};
+ghost use Rattle.sponge.specs.Count.{openCount, closedCount};
 ghost use Rattle.sponge.specs.Transcript.{Call};
 ghost use Rattle.keccak.specs.Permutation.{roundsStatus};
+ghost use Rattle.hasher.specs.Function.{messageLimit, longOutput};
 ghost use Rattle.hasher.specs.Model.{reachable, numbers, runWith, answered, performOf, writtenOf, hashStatus, hashOutput};
 use crate::MESSAGE_LIMIT;
 use crate::Moved;
@@ -26,26 +30,88 @@ fn position_after(rate: usize, n: u64) -> usize
     ((n - 1) % (rate as u64)) as usize + 1
 }
 
-// Whether a run reached from a fresh one has this phase, these totals and this position.
-fn is_reachable(rate: usize, limit: u64, at: Progress) -> bool
+// The permutations of n bytes absorbed, or of n bytes squeezed.
+fn open_count(rate: usize, n: u64) -> u64
     requires { ⌜ (0 < rate) × (rate ≤ 200) ⌝ }
-    ensures { λ r. ⌜ r ≡ reachable rate limit (at .position) (at .phase) (at .absorbed) (at .squeezed) ⌝ }
+    ensures { λ r. ⌜ (r ≡ openCount rate n) × (r ≤ n) ⌝ }
+{
+    if n == 0 {
+        return 0;
+    }
+    (n - 1) / (rate as u64)
+}
+
+// The permutations of m bytes absorbed, the padding and n bytes squeezed. At the limits the sum is far below 2^64, whatever the rate.
+fn closed_count(rate: usize, m: u64, n: u64) -> u64
+    requires { ⌜ (0 < rate) × (rate ≤ 200) × (m ≤ messageLimit) × (n ≤ longOutput) ⌝ }
+    ensures { λ r. ⌜ r ≡ closedCount rate m n ⌝ }
+{
+    m / (rate as u64) + 1 + open_count(rate, n)
+}
+
+// The permutations once `total` bytes are absorbed. They stay as they were where the block in hand has room for the piece, so a short one needs
+// no division.
+fn count_after(rate: usize, at: Progress, total: u64) -> u64
+    requires { ⌜ (0 < rate) × (rate ≤ 200) × (at .position ≡ positionAfter rate (at .absorbed)) × (at .permutations ≡ openCount rate (at .absorbed)) × (at .absorbed ≤ total) ⌝ }
+    ensures { λ r. ⌜ r ≡ openCount rate total ⌝ }
+{
+    if total - at.absorbed <= (rate - at.position) as u64 {
+        return at.permutations;
+    }
+    open_count(rate, total)
+}
+
+// The most bytes that a run in this phase has squeezed.
+fn most_squeezed(limit: u32, at: Progress) -> u64
+    ensures { λ r. ⌜ (r ≡ cond (eqb (at .phase) 0) 0 limit) × (r ≤ limit) ⌝ }
+{
+    if at.phase == ABSORBING {
+        return 0;
+    }
+    limit as u64
+}
+
+// The bytes that tell the position: those absorbed, or those squeezed.
+fn total_in_hand(at: Progress) -> u64
+    ensures { λ r. ⌜ (r ≡ cond (eqb (at .phase) 0) (at .absorbed) (at .squeezed)) × (r ≤ at .absorbed + at .squeezed) ⌝ }
+{
+    if at.phase == ABSORBING {
+        return at.absorbed;
+    }
+    at.squeezed
+}
+
+// The permutations when the run was closed, 0 where it is open.
+fn count_at_close(rate: usize, at: Progress) -> u64
+    requires { ⌜ (0 < rate) × (rate ≤ 200) × (at .absorbed ≤ messageLimit) ⌝ }
+    ensures { λ r. ⌜ (r ≡ cond (eqb (at .phase) 0) 0 (suc (at .absorbed / rate))) × (r ≤ at .absorbed + 1) ⌝ }
+{
+    if at.phase == ABSORBING {
+        return 0;
+    }
+    at.absorbed / (rate as u64) + 1
+}
+
+// Whether a run reached from a fresh one has this phase, these totals, this position and these permutations. The phases share one division, which
+// gives the position and the permutations: so the test is short enough for the compiler to put it into each call.
+fn is_reachable(rate: usize, limit: u32, at: Progress) -> bool
+    requires { ⌜ (0 < rate) × (rate ≤ 200) ⌝ }
+    ensures { λ r. ⌜ r ≡ reachable rate limit (at .position) (at .phase) (at .absorbed) (at .squeezed) (at .permutations) ⌝ }
 {
     if MESSAGE_LIMIT < at.absorbed {
         return false;
     }
-    if at.phase == ABSORBING {
-        if at.squeezed == 0 {
-            return at.position == position_after(rate, at.absorbed);
-        }
+    if SQUEEZING < at.phase {
         return false;
     }
-    if at.phase == SQUEEZING {
-        if at.squeezed <= limit {
-            return at.position == position_after(rate, at.squeezed);
-        }
+    if most_squeezed(limit, at) < at.squeezed {
+        return false;
     }
-    false
+    let n = total_in_hand(at);
+    if at.position != position_after(rate, n) {
+        return false;
+    }
+    at.permutations == count_at_close(rate, at) + open_count(rate, n)
 }
 
 pub(crate) fn refused(number: u8, at: Progress) -> Moved
@@ -57,7 +123,7 @@ pub(crate) fn refused(number: u8, at: Progress) -> Moved
 pub(crate) fn absorb(
     rate: usize,
     rounds: usize,
-    limit: u64,
+    limit: u32,
     lanes: &mut [u64; 25],
     at: Progress,
     piece: &[u8],
@@ -75,10 +141,12 @@ pub(crate) fn absorb(
     if MESSAGE_LIMIT < total {
         return refused(status::INPUT_TOO_LONG, at);
     }
+    let count = count_after(rate, at, total);
     let taken = sponge::absorb(lanes, at.position, rate, rounds, piece);
     let mut next = at;
     next.position = taken.position;
     next.absorbed = total;
+    next.permutations = count;
     Moved {
         at: next,
         status: taken.status,
@@ -88,7 +156,7 @@ pub(crate) fn absorb(
 pub(crate) fn finalize(
     rate: usize,
     rounds: usize,
-    limit: u64,
+    limit: u32,
     lanes: &mut [u64; 25],
     at: Progress,
     refusal: u8,
@@ -106,10 +174,12 @@ pub(crate) fn finalize(
     if refusal != status::DONE {
         return refused(refusal, at);
     }
+    let count = closed_count(rate, at.absorbed, 0);
     let padded = sponge::pad(lanes, at.position, rate, rounds, last);
     let mut next = at;
     next.position = padded.position;
     next.phase = SQUEEZING;
+    next.permutations = count;
     Moved {
         at: next,
         status: padded.status,
@@ -119,7 +189,7 @@ pub(crate) fn finalize(
 pub(crate) fn squeeze(
     rate: usize,
     rounds: usize,
-    limit: u64,
+    limit: u32,
     lanes: &mut [u64; 25],
     at: Progress,
     out: &mut [u8],
@@ -135,21 +205,23 @@ pub(crate) fn squeeze(
         return refused(status::WRONG_PHASE, at);
     }
     let asked = out.len() as u64;
-    if limit - at.squeezed < asked {
+    if limit as u64 - at.squeezed < asked {
         return refused(status::OUTPUT_TOO_LONG, at);
     }
     let total = at.squeezed + asked;
+    let count = closed_count(rate, at.absorbed, total);
     let given = sponge::squeeze(lanes, at.position, rate, rounds, out);
     let mut next = at;
     next.position = given.position;
     next.squeezed = total;
+    next.permutations = count;
     Moved {
         at: next,
         status: given.status,
     }
 }
 
-fn hash_status(limit: u64, message: u64, refusal: u8, asked: u64) -> u8
+fn hash_status(limit: u32, message: u64, refusal: u8, asked: u64) -> u8
     ensures { λ r. ⌜ r ≡ hashStatus limit message refusal asked ⌝ }
 {
     if refusal != status::DONE {
@@ -161,7 +233,7 @@ fn hash_status(limit: u64, message: u64, refusal: u8, asked: u64) -> u8
     if asked == 0 {
         return status::BAD_LENGTH;
     }
-    if limit < asked {
+    if (limit as u64) < asked {
         return status::OUTPUT_TOO_LONG;
     }
     status::DONE
@@ -170,7 +242,7 @@ fn hash_status(limit: u64, message: u64, refusal: u8, asked: u64) -> u8
 pub(crate) fn hash(
     rate: usize,
     rounds: usize,
-    limit: u64,
+    limit: u32,
     message: &[u8],
     refusal: u8,
     last: u8,

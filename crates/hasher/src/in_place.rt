@@ -12,7 +12,7 @@ use sponge::status;
 pub fn absorb(
     rate: usize,
     rounds: usize,
-    limit: u64,
+    limit: u32,
     lanes: &mut [u64; 25],
     at: Progress,
     piece: &[u8],
@@ -30,7 +30,7 @@ pub fn absorb(
 pub fn finalize(
     rate: usize,
     rounds: usize,
-    limit: u64,
+    limit: u32,
     lanes: &mut [u64; 25],
     at: Progress,
     refusal: u8,
@@ -49,7 +49,7 @@ pub fn finalize(
 pub fn squeeze(
     rate: usize,
     rounds: usize,
-    limit: u64,
+    limit: u32,
     lanes: &mut [u64; 25],
     at: Progress,
     out: &mut [u8],

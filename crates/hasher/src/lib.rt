@@ -12,16 +12,19 @@ use sponge::status;
 // The most bytes of a message.
 pub const MESSAGE_LIMIT: u64 = 17179869183;
 
-// The most bytes of output, where a function has no limit of its own.
-pub const LONG_OUTPUT: u64 = 4294967295;
+// The most bytes of output, where a function has no limit of its own. A read limit has 32 bits, so that no number of permutations overflows at any
+// rate.
+pub const LONG_OUTPUT: u32 = 4294967295;
 
-// A run: document 01's fixed-size state with its place, phase (0 absorbing, 1 squeezing), bytes fed and bytes read.
+// A run: document 01's fixed-size state with its place, phase (0 absorbing, 1 squeezing), bytes fed and bytes read, and request Q-10's permutations
+// of the definition so far.
 pub struct Run {
     pub lanes: [u64; 25],
     pub position: usize,
     pub phase: u8,
     pub absorbed: u64,
     pub squeezed: u64,
+    pub permutations: u64,
 }
 
 // What a run holds beside its lanes.
@@ -30,6 +33,7 @@ pub struct Progress {
     pub phase: u8,
     pub absorbed: u64,
     pub squeezed: u64,
+    pub permutations: u64,
 }
 
 // What a call on lent lanes answers: the status, and what the run then holds beside them, which is what was given where the status is not 0.
@@ -55,6 +59,7 @@ pub fn fresh() -> Run
         phase: 0,
         absorbed: 0,
         squeezed: 0,
+        permutations: 0,
     }
 }
 
@@ -67,6 +72,7 @@ pub fn progress_of(run: Run) -> Progress
         phase: run.phase,
         absorbed: run.absorbed,
         squeezed: run.squeezed,
+        permutations: run.permutations,
     }
 }
 
@@ -80,6 +86,7 @@ pub fn run_with(lanes: [u64; 25], at: Progress) -> Run
         phase: at.phase,
         absorbed: at.absorbed,
         squeezed: at.squeezed,
+        permutations: at.permutations,
     }
 }
 
@@ -94,7 +101,7 @@ fn answer_with(lanes: [u64; 25], moved: Moved) -> Answer
 }
 
 // Absorbs a piece of the message.
-pub fn absorb(rate: usize, rounds: usize, limit: u64, run: Run, piece: &[u8]) -> Answer
+pub fn absorb(rate: usize, rounds: usize, limit: u32, run: Run, piece: &[u8]) -> Answer
     ensures { λ r. ⌜ r ≡ answerOf (numbers rate rounds limit) run (Call.absorb (now (piece .entry))) ⌝ }
 {
     let mut lanes = run.lanes;
@@ -103,7 +110,7 @@ pub fn absorb(rate: usize, rounds: usize, limit: u64, run: Run, piece: &[u8]) ->
 }
 
 // Ends the message with the byte `last`, whose own status is `refusal`.
-pub fn finalize(rate: usize, rounds: usize, limit: u64, run: Run, refusal: u8, last: u8) -> Answer
+pub fn finalize(rate: usize, rounds: usize, limit: u32, run: Run, refusal: u8, last: u8) -> Answer
     ensures { λ r. ⌜ r ≡ answerOf (numbers rate rounds limit) run (Call.finalize (record { byte = last; status = refusal })) ⌝ }
 {
     let mut lanes = run.lanes;
@@ -120,7 +127,7 @@ pub fn finalize(rate: usize, rounds: usize, limit: u64, run: Run, refusal: u8, l
 }
 
 // Squeezes as many bytes of output as `out` holds.
-pub fn squeeze(rate: usize, rounds: usize, limit: u64, run: Run, out: &mut [u8]) -> Answer
+pub fn squeeze(rate: usize, rounds: usize, limit: u32, run: Run, out: &mut [u8]) -> Answer
     ensures { λ r. ⌜ r ≡ answerOf (numbers rate rounds limit) run (Call.squeeze (length (now (out .entry)))) ⌝ }
     ensures { λ r. ⌜ now (out .exit) ≡ outputOf (numbers rate rounds limit) run (now (out .entry)) ⌝ }
 {
@@ -133,7 +140,7 @@ pub fn squeeze(rate: usize, rounds: usize, limit: u64, run: Run, out: &mut [u8])
 pub fn hash(
     rate: usize,
     rounds: usize,
-    limit: u64,
+    limit: u32,
     message: &[u8],
     refusal: u8,
     last: u8,

@@ -4,11 +4,11 @@ ghost use lib.ListN.{length};
 ghost use Rattle.sponge.specs.Transcript.{Call};
 ghost use Rattle.hasher.specs.Model.{answer, written, runWith, answered};
 ghost use Rattle.turboshake.specs.Transcript.{function};
-use crate::OUTPUT_LIMIT;
 use crate::ROUNDS;
 use crate::TurboShake128;
 use crate::TurboShake256;
 use crate::domain_status;
+use hasher::LONG_OUTPUT;
 use hasher::Moved;
 use hasher::Progress;
 use hasher::in_place;
@@ -18,7 +18,7 @@ impl TurboShake128 {
     pub fn absorb_in_place(lanes: &mut [u64; 25], at: Progress, piece: &[u8]) -> Moved
         ensures { λ r. ⌜ answered r (now (lanes .exit)) ≡ answer (function 168) (runWith (now (lanes .entry)) at) (Call.absorb (now (piece .entry))) ⌝ }
     {
-        in_place::absorb(Self::RATE, ROUNDS, OUTPUT_LIMIT, lanes, at, piece)
+        in_place::absorb(Self::RATE, ROUNDS, LONG_OUTPUT, lanes, at, piece)
     }
 
     // Ends the message with the domain separation byte, 01 to 7F.
@@ -26,7 +26,7 @@ impl TurboShake128 {
         ensures { λ r. ⌜ answered r (now (lanes .exit)) ≡ answer (function 168) (runWith (now (lanes .entry)) at) (Call.finalize domain) ⌝ }
     {
         let refusal = domain_status(domain);
-        in_place::finalize(Self::RATE, ROUNDS, OUTPUT_LIMIT, lanes, at, refusal, domain)
+        in_place::finalize(Self::RATE, ROUNDS, LONG_OUTPUT, lanes, at, refusal, domain)
     }
 
     // Squeezes as many bytes of output as `out` holds.
@@ -34,7 +34,7 @@ impl TurboShake128 {
         ensures { λ r. ⌜ answered r (now (lanes .exit)) ≡ answer (function 168) (runWith (now (lanes .entry)) at) (Call.squeeze (length (now (out .entry)))) ⌝ }
         ensures { λ r. ⌜ now (out .exit) ≡ written (function 168) (runWith (now (lanes .entry)) at) (now (out .entry)) ⌝ }
     {
-        in_place::squeeze(Self::RATE, ROUNDS, OUTPUT_LIMIT, lanes, at, out)
+        in_place::squeeze(Self::RATE, ROUNDS, LONG_OUTPUT, lanes, at, out)
     }
 }
 
@@ -43,7 +43,7 @@ impl TurboShake256 {
     pub fn absorb_in_place(lanes: &mut [u64; 25], at: Progress, piece: &[u8]) -> Moved
         ensures { λ r. ⌜ answered r (now (lanes .exit)) ≡ answer (function 136) (runWith (now (lanes .entry)) at) (Call.absorb (now (piece .entry))) ⌝ }
     {
-        in_place::absorb(Self::RATE, ROUNDS, OUTPUT_LIMIT, lanes, at, piece)
+        in_place::absorb(Self::RATE, ROUNDS, LONG_OUTPUT, lanes, at, piece)
     }
 
     // Ends the message with the domain separation byte, 01 to 7F.
@@ -51,7 +51,7 @@ impl TurboShake256 {
         ensures { λ r. ⌜ answered r (now (lanes .exit)) ≡ answer (function 136) (runWith (now (lanes .entry)) at) (Call.finalize domain) ⌝ }
     {
         let refusal = domain_status(domain);
-        in_place::finalize(Self::RATE, ROUNDS, OUTPUT_LIMIT, lanes, at, refusal, domain)
+        in_place::finalize(Self::RATE, ROUNDS, LONG_OUTPUT, lanes, at, refusal, domain)
     }
 
     // Squeezes as many bytes of output as `out` holds.
@@ -59,6 +59,6 @@ impl TurboShake256 {
         ensures { λ r. ⌜ answered r (now (lanes .exit)) ≡ answer (function 136) (runWith (now (lanes .entry)) at) (Call.squeeze (length (now (out .entry)))) ⌝ }
         ensures { λ r. ⌜ now (out .exit) ≡ written (function 136) (runWith (now (lanes .entry)) at) (now (out .entry)) ⌝ }
     {
-        in_place::squeeze(Self::RATE, ROUNDS, OUTPUT_LIMIT, lanes, at, out)
+        in_place::squeeze(Self::RATE, ROUNDS, LONG_OUTPUT, lanes, at, out)
     }
 }

@@ -7,6 +7,7 @@ ghost use lib.ListN.{length};
 ghost use Rattle.sponge.specs.Transcript.{Call};
 ghost use Rattle.hasher.specs.Model.{freshOf, answer, written, oneGoStatus, oneGoOutput};
 ghost use Rattle.turboshake.specs.Transcript.{domainStatus, function};
+use hasher::LONG_OUTPUT;
 use hasher::Run;
 use sponge::status;
 
@@ -17,7 +18,7 @@ pub const ROUNDS: usize = 12;
 pub const MESSAGE_LIMIT: u64 = hasher::MESSAGE_LIMIT;
 
 // The most bytes of output.
-pub const OUTPUT_LIMIT: u64 = hasher::LONG_OUTPUT;
+pub const OUTPUT_LIMIT: u64 = hasher::LONG_OUTPUT as u64;
 
 // The status of a domain separation byte: 01 to 7F are taken.
 pub fn domain_status(domain: u8) -> u8
@@ -62,7 +63,7 @@ impl TurboShake128 {
     pub fn absorb(self, piece: &[u8]) -> Answer128
         ensures { λ r. ⌜ record { run = r .hasher .run; status = r .status } ≡ answer (function 168) (self .run) (Call.absorb (now (piece .entry))) ⌝ }
     {
-        let answered = hasher::absorb(Self::RATE, ROUNDS, OUTPUT_LIMIT, self.run, piece);
+        let answered = hasher::absorb(Self::RATE, ROUNDS, LONG_OUTPUT, self.run, piece);
         let run = answered.run;
         let hasher = TurboShake128 { run };
         Answer128 {
@@ -76,14 +77,7 @@ impl TurboShake128 {
         ensures { λ r. ⌜ record { run = r .hasher .run; status = r .status } ≡ answer (function 168) (self .run) (Call.finalize domain) ⌝ }
     {
         let refusal = domain_status(domain);
-        let answered = hasher::finalize(
-            Self::RATE,
-            ROUNDS,
-            OUTPUT_LIMIT,
-            self.run,
-            refusal,
-            domain,
-        );
+        let answered = hasher::finalize(Self::RATE, ROUNDS, LONG_OUTPUT, self.run, refusal, domain);
         let run = answered.run;
         let hasher = TurboShake128 { run };
         Answer128 {
@@ -97,7 +91,7 @@ impl TurboShake128 {
         ensures { λ r. ⌜ record { run = r .hasher .run; status = r .status } ≡ answer (function 168) (self .run) (Call.squeeze (length (now (out .entry)))) ⌝ }
         ensures { λ r. ⌜ now (out .exit) ≡ written (function 168) (self .run) (now (out .entry)) ⌝ }
     {
-        let answered = hasher::squeeze(Self::RATE, ROUNDS, OUTPUT_LIMIT, self.run, out);
+        let answered = hasher::squeeze(Self::RATE, ROUNDS, LONG_OUTPUT, self.run, out);
         let run = answered.run;
         let hasher = TurboShake128 { run };
         Answer128 {
@@ -145,7 +139,7 @@ impl TurboShake256 {
     pub fn absorb(self, piece: &[u8]) -> Answer256
         ensures { λ r. ⌜ record { run = r .hasher .run; status = r .status } ≡ answer (function 136) (self .run) (Call.absorb (now (piece .entry))) ⌝ }
     {
-        let answered = hasher::absorb(Self::RATE, ROUNDS, OUTPUT_LIMIT, self.run, piece);
+        let answered = hasher::absorb(Self::RATE, ROUNDS, LONG_OUTPUT, self.run, piece);
         let run = answered.run;
         let hasher = TurboShake256 { run };
         Answer256 {
@@ -159,14 +153,7 @@ impl TurboShake256 {
         ensures { λ r. ⌜ record { run = r .hasher .run; status = r .status } ≡ answer (function 136) (self .run) (Call.finalize domain) ⌝ }
     {
         let refusal = domain_status(domain);
-        let answered = hasher::finalize(
-            Self::RATE,
-            ROUNDS,
-            OUTPUT_LIMIT,
-            self.run,
-            refusal,
-            domain,
-        );
+        let answered = hasher::finalize(Self::RATE, ROUNDS, LONG_OUTPUT, self.run, refusal, domain);
         let run = answered.run;
         let hasher = TurboShake256 { run };
         Answer256 {
@@ -180,7 +167,7 @@ impl TurboShake256 {
         ensures { λ r. ⌜ record { run = r .hasher .run; status = r .status } ≡ answer (function 136) (self .run) (Call.squeeze (length (now (out .entry)))) ⌝ }
         ensures { λ r. ⌜ now (out .exit) ≡ written (function 136) (self .run) (now (out .entry)) ⌝ }
     {
-        let answered = hasher::squeeze(Self::RATE, ROUNDS, OUTPUT_LIMIT, self.run, out);
+        let answered = hasher::squeeze(Self::RATE, ROUNDS, LONG_OUTPUT, self.run, out);
         let run = answered.run;
         let hasher = TurboShake256 { run };
         Answer256 {
@@ -204,5 +191,5 @@ pub fn hash_at_rate(rate: usize, message: &[u8], domain: u8, out: &mut [u8]) -> 
     ensures { λ r. ⌜ now (out .exit) ≡ oneGoOutput (function rate) (now (message .entry)) domain (now (out .entry)) ⌝ }
 {
     let refusal = domain_status(domain);
-    hasher::hash(rate, ROUNDS, OUTPUT_LIMIT, message, refusal, domain, out)
+    hasher::hash(rate, ROUNDS, LONG_OUTPUT, message, refusal, domain, out)
 }

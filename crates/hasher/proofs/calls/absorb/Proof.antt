@@ -11,12 +11,12 @@ use Rattle.hasher.specs.Function.{messageLimit}
 use Rattle.hasher.specs.Model.{reachable, numbers, runWith, answered}
 use Rattle.hasher.specs.declared.Run.{Run}
 use Rattle.hasher.specs.declared.Moved.{Moved}
-use Rattle.hasher.proofs.Cases.{fits, status-5, absorb-3, absorb-2, absorb-0, answer-refused, absorb-answer}
+use Rattle.hasher.proofs.Cases.{fits, open-due, status-5, absorb-3, absorb-2, absorb-0, answer-refused, absorb-answer}
 use Rattle.hasher.proofs.calls.absorb.Statement.{statement}
 use Rattle.hasher.proofs.calls.absorb.Tie as tie
 
 -- past the first test the run is one that 5 does not refuse
-was : (c : tie.Else1) → reachable (c .before .before .before .args .rate) (c .before .before .before .args .limit) (c .before .before .before .args .at .position) (c .before .before .before .args .at .phase) (c .before .before .before .args .at .absorbed) (c .before .before .before .args .at .squeezed) ≡ true
+was : (c : tie.Else1) → reachable (c .before .before .before .args .rate) (c .before .before .before .args .limit) (c .before .before .before .args .at .position) (c .before .before .before .args .at .phase) (c .before .before .before .args .at .absorbed) (c .before .before .before .args .at .squeezed) (c .before .before .before .args .at .permutations) ≡ true
 was c = sym (c .before .is-reachable .ensures) ∙ not-false _ (c .if1 .left)
 
 fit : (c : tie.Else1) → (c .before .before .before .args .at .position ≤ c .before .before .before .args .rate) × (c .before .before .before .args .at .absorbed ≤ messageLimit) × (c .before .before .before .args .at .squeezed ≤ c .before .before .before .args .limit)
@@ -63,16 +63,26 @@ returns-3 c =
     let e = absorb-2 (numbers (a .rate) (a .rounds) (a .limit)) r (was (c .before .before .before .before .before)) (a .piece .now) (c .before .before .before .if2 .left) (c .before .if3 .taken) in
     ap (λ (m : Moved). answered m (a .lanes .now)) (c .refused3 .ensures) ∙ answer-refused (numbers (a .rate) (a .rounds) (a .limit)) r (absorb (a .piece .now)) 1 e
 
+count-after-requires : tie.Need-count-after-requires
+count-after-requires c κs =
+    let past = c .before .before .before .before in
+    let s = past .before .before .before in
+    let a = s .args in
+    let d = open-due (numbers (a .rate) (a .rounds) (a .limit)) (runWith (a .lanes .now) (a .at)) (was past) (c .before .before .if2 .left) in
+    (s .pre .0, s .pre .1, d .0, d .1, omega arith)
+
 absorb-requires : tie.Need-absorb-requires
 absorb-requires c κs = search needs
 
 returns-4 : tie.Need-returns-4
 returns-4 c =
-    let a = c .before .before .before .before .before .before .before .before .before .args in
+    let k = c .before .before in
+    let past = k .before .before .before .before .before in
+    let s = past .before .before .before in
+    let a = s .args in
     let r : Run = runWith (a .lanes .now) (a .at) in
-    let past = c .before .before .before .before .before .before in
-    let e = absorb-0 (numbers (a .rate) (a .rounds) (a .limit)) r (was past) (a .piece .now) (c .before .before .before .before .if2 .left) (c .before .before .if3 .left) in
-    absorb-answer (numbers (a .rate) (a .rounds) (a .limit)) r (ok past) (a .piece .now) (record { status = c .absorb .result .status; state = record { value = c .absorb .last .0; position = c .absorb .result .position } }) (c .absorb .ensures) e
+    let e = absorb-0 (numbers (a .rate) (a .rounds) (a .limit)) r (was past) (a .piece .now) (k .before .before .before .if2 .left) (k .before .if3 .left) in
+    absorb-answer (numbers (a .rate) (a .rounds) (a .limit)) (s .pre .0) r (ok past) (was past) (a .piece .now) (record { status = c .absorb .result .status; state = record { value = c .absorb .last .0; position = c .absorb .result .position } }) (k .count-after .result) (c .absorb .ensures) (k .count-after .ensures) (k .before .before .before .if2 .left) e
 
 pub absorb-spec : {M : Type 1} → statement M
 absorb-spec =
@@ -86,5 +96,6 @@ absorb-spec =
     add-total
     refused-requires-3
     returns-3
+    count-after-requires
     absorb-requires
     returns-4)

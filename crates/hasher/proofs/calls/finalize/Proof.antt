@@ -1,6 +1,7 @@
 use mathlib.Core.Path.{_≡_, ap, sym, _∙_}
 use mathlib.Core.Bool.{true}
-use Prim.Native.Nat.{_≤_}
+use Prim.Native.Nat.{_≤_, zero-le}
+use native.Mathlib.Omega.{arith}
 use borrow.Author.Needs.{needs}
 use borrow.Author.Tests.{not-true, not-false}
 use Rattle.sponge.specs.Model.{callStatus}
@@ -15,7 +16,7 @@ use Rattle.hasher.proofs.calls.finalize.Statement.{statement}
 use Rattle.hasher.proofs.calls.finalize.Tie as tie
 
 -- past the first test the run is one that 5 does not refuse
-was : (c : tie.Else1) → reachable (c .before .before .args .rate) (c .before .before .args .limit) (c .before .before .args .at .position) (c .before .before .args .at .phase) (c .before .before .args .at .absorbed) (c .before .before .args .at .squeezed) ≡ true
+was : (c : tie.Else1) → reachable (c .before .before .args .rate) (c .before .before .args .limit) (c .before .before .args .at .position) (c .before .before .args .at .phase) (c .before .before .args .at .absorbed) (c .before .before .args .at .squeezed) (c .before .before .args .at .permutations) ≡ true
 was c = sym (c .before .is-reachable .ensures) ∙ not-false _ (c .if1 .left)
 
 fit : (c : tie.Else1) → (c .before .before .args .at .position ≤ c .before .before .args .rate) × (c .before .before .args .at .absorbed ≤ messageLimit) × (c .before .before .args .at .squeezed ≤ c .before .before .args .limit)
@@ -59,16 +60,25 @@ returns-3 c =
     let e = finalize-d (numbers (a .rate) (a .rounds) (a .limit)) r (was (c .before .before .before .before)) (record { byte = a .last; status = a .refusal }) (c .before .before .if2 .left) in
     ap (λ (m : Moved). answered m (a .lanes .now)) (c .refused3 .ensures) ∙ answer-other (numbers (a .rate) (a .rounds) (a .limit)) r (finalize (record { byte = a .last; status = a .refusal })) (a .refusal) (c .before .if3 .taken) e
 
+closed-count-requires : tie.Need-closed-count-requires
+closed-count-requires c κs =
+    let past = c .before .before .before in
+    let s = past .before .before in
+    let h = fit past in
+    (s .pre .0, s .pre .1, omega arith, zero-le)
+
 pad-requires : tie.Need-pad-requires
 pad-requires c κs = search needs
 
 returns-4 : tie.Need-returns-4
 returns-4 c =
-    let a = c .before .before .before .before .before .before .before .args in
+    let k = c .before .before in
+    let past = k .before .before .before .before in
+    let s = past .before .before in
+    let a = s .args in
     let r : Run = runWith (a .lanes .now) (a .at) in
-    let past = c .before .before .before .before .before in
-    let e = finalize-d (numbers (a .rate) (a .rounds) (a .limit)) r (was past) (record { byte = a .last; status = a .refusal }) (c .before .before .before .if2 .left) ∙ c .before .before .if3 .left in
-    finalize-answer (numbers (a .rate) (a .rounds) (a .limit)) r (ok past) (record { byte = a .last; status = a .refusal }) (record { status = c .pad .result .status; state = record { value = c .pad .last .0; position = c .pad .result .position } }) (c .pad .ensures) e
+    let e = finalize-d (numbers (a .rate) (a .rounds) (a .limit)) r (was past) (record { byte = a .last; status = a .refusal }) (k .before .before .if2 .left) ∙ k .before .if3 .left in
+    finalize-answer (numbers (a .rate) (a .rounds) (a .limit)) (s .pre .0) r (ok past) (was past) (record { byte = a .last; status = a .refusal }) (record { status = c .pad .result .status; state = record { value = c .pad .last .0; position = c .pad .result .position } }) (k .closed-count .result) (c .pad .ensures) (k .closed-count .ensures) (k .before .before .if2 .left) e
 
 pub finalize-spec : {M : Type 1} → statement M
 finalize-spec =
@@ -81,5 +91,6 @@ finalize-spec =
     returns-2
     refused-requires-3
     returns-3
+    closed-count-requires
     pad-requires
     returns-4)

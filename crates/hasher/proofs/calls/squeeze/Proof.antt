@@ -17,7 +17,7 @@ use Rattle.hasher.proofs.calls.squeeze.Statement.{statement}
 use Rattle.hasher.proofs.calls.squeeze.Tie as tie
 
 -- past the first test the run is one that 5 does not refuse
-was : (c : tie.Else1) → reachable (c .before .before .before .args .rate) (c .before .before .before .args .limit) (c .before .before .before .args .at .position) (c .before .before .before .args .at .phase) (c .before .before .before .args .at .absorbed) (c .before .before .before .args .at .squeezed) ≡ true
+was : (c : tie.Else1) → reachable (c .before .before .before .args .rate) (c .before .before .before .args .limit) (c .before .before .before .args .at .position) (c .before .before .before .args .at .phase) (c .before .before .before .args .at .absorbed) (c .before .before .before .args .at .squeezed) (c .before .before .before .args .at .permutations) ≡ true
 was c = sym (c .before .is-reachable .ensures) ∙ not-false _ (c .if1 .left)
 
 fit : (c : tie.Else1) → (c .before .before .before .args .at .position ≤ c .before .before .before .args .rate) × (c .before .before .before .args .at .absorbed ≤ messageLimit) × (c .before .before .before .args .at .squeezed ≤ c .before .before .before .args .limit)
@@ -67,6 +67,13 @@ returns-3 c =
 add-total : tie.Need-add-total
 add-total c = let h = fit (c .before .before .before .before .before) in omega arith
 
+closed-count-requires : tie.Need-closed-count-requires
+closed-count-requires c κs =
+    let past = c .before .before .before .before .before in
+    let s = past .before .before .before in
+    let h = fit past in
+    (s .pre .0, s .pre .1, h .1, omega (arith, c .before .if3 .left))
+
 squeeze-requires : tie.Need-squeeze-requires
 squeeze-requires c κs = search needs
 
@@ -75,13 +82,16 @@ same-length c = search needs
 
 returns-4 : tie.Need-returns-4
 returns-4 c =
-    let a = c .before .before .before .before .before .before .before .before .before .before .before .before .before .args in
-    let r : Run = runWith (a .lanes .now) (a .at) in
     let q = c .before .before .squeeze in
-    let past = c .before .before .before .before .before .before .before .before .before .before in
-    let e = squeeze-0 (numbers (a .rate) (a .rounds) (a .limit)) r (was past) (length (a .out .now)) (c .before .before .before .before .before .before .before .before .if2 .left) (let h = fit past in omega (arith, c .before .before .before .before .before .before .if3 .left)) in (
-      squeeze-answer (numbers (a .rate) (a .rounds) (a .limit)) r (ok past) (length (a .out .now)) (record { status = q .result .status; state = record { value = q .last .0; position = q .result .position } }) (q .ensures .0) e,
-      q .ensures .1 ∙ squeeze-written (numbers (a .rate) (a .rounds) (a .limit)) r (ok past) (a .out .now) e,
+    let k = c .before .before .before .before .before in
+    let past = k .before .before .before .before .before .before in
+    let s = past .before .before .before in
+    let a = s .args in
+    let r : Run = runWith (a .lanes .now) (a .at) in
+    let phase = k .before .before .before .before .if2 .left in
+    let e = squeeze-0 (numbers (a .rate) (a .rounds) (a .limit)) r (was past) (length (a .out .now)) phase (let h = fit past in omega (arith, k .before .before .if3 .left)) in (
+      squeeze-answer (numbers (a .rate) (a .rounds) (a .limit)) (s .pre .0) r (ok past) (was past) (length (a .out .now)) (record { status = q .result .status; state = record { value = q .last .0; position = q .result .position } }) (k .closed-count .result) (q .ensures .0) (k .closed-count .ensures) phase e,
+      q .ensures .1 ∙ squeeze-written (numbers (a .rate) (a .rounds) (a .limit)) (s .pre .0) r (ok past) (was past) (a .out .now) e,
     )
 
 pub squeeze-spec : {M : Type 1} → statement M
@@ -97,6 +107,7 @@ squeeze-spec =
     refused-requires-3
     returns-3
     add-total
+    closed-count-requires
     squeeze-requires
     same-length
     returns-4)
