@@ -1,6 +1,7 @@
 pub mod Laws
 pub mod Streaming
 pub mod Claims
+pub mod Counts
 pub mod Pieces
 pub mod OneGo
 mod Cases

@@ -14,6 +14,7 @@ use Rattle.hasher.proofs.Claims as hasher
 use Rattle.turboshake.specs.Published.{turboshakeRounds, turboshake}
 use Rattle.turboshake.specs.Transcript.{domainStatus, function}
 use Rattle.turboshake.specs.Claims.{At, Claims}
+use Rattle.turboshake.proofs.Examples.{examples}
 
 pub domain-taken : (d : ℕ) → 0 < d → d ≤ 0x7F → domainStatus d ≡ 0
 unfolding domainStatus
@@ -42,4 +43,4 @@ unfolding turboshake
 at rate pos most = record { runs = hasher.claims (function rate) (meets rate pos most); published = output-is (function rate) }
 
 pub claims : Claims
-claims = record { turboshake128 = at 168 (omega arith) (omega arith); turboshake256 = at 136 (omega arith) (omega arith) }
+claims = record { turboshake128 = at 168 (omega arith) (omega arith); turboshake256 = at 136 (omega arith) (omega arith); examples = examples (meets 168 (omega arith) (omega arith)) }

@@ -1,3 +1,4 @@
 pub mod Published
+pub mod Examples
 pub mod Claims
 pub mod AtRate

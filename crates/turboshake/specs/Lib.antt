@@ -1,3 +1,4 @@
 pub mod Published
 pub mod Transcript
+pub mod Examples
 pub mod Claims
