@@ -1,5 +1,5 @@
-// The fields of a run by the numbers that op S gives them: phase, bytes absorbed, bytes squeezed, position; 64 + i is lane i. A run
-// of KT has the position and the lanes of the final node there; 4 is the leaf's position, 5 the customization bytes, and 96 + i lane i of
+// The fields of a run by the numbers that op S gives them: phase, bytes absorbed, bytes squeezed, position; 6 is the permutations; 64 + i is lane i.
+// A run of KT has the position and the lanes of the final node there; 4 is the leaf's position, 5 the customization bytes, and 96 + i lane i of
 // the leaf.
 ghost use Prim.Native.Nat.{_<_};
 use kangarootwelve::State;
@@ -41,6 +41,7 @@ pub fn write(run: hasher::Run, field: u8, value: u64) -> Written {
         1 => next.absorbed = value,
         2 => next.squeezed = value,
         3 => next.position = value as usize,
+        6 => next.permutations = value,
         64..=88 => {
             let lane = (field - 64) as usize;
             next.lanes[lane] = value;
@@ -100,6 +101,7 @@ pub fn write_kt(run: kangarootwelve::Run, field: u8, value: u64) -> KtWritten {
         3 => next.node = with_position(node, value),
         4 => next.leaf = with_position(leaf, value),
         5 => next.customized = value,
+        6 => next.permutations = value,
         _ => return write_kt_lane(run, field, value),
     }
     kt_written(next)

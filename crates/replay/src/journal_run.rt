@@ -29,7 +29,7 @@ fn finish(session: Session, payload: &[u8]) -> Session {
 }
 
 pub fn answer(session: Session, op: u8, payload: &[u8], text: &mut [u8]) -> Session
-    requires { ⌜ 938 ≤ length (now text) ⌝ }
+    requires { ⌜ 955 ≤ length (now text) ⌝ }
 {
     let run = session.kt_run;
     match op {

@@ -44,7 +44,7 @@ fn set(session: Session, payload: &[u8]) -> Session {
 }
 
 fn dump(session: Session, payload: &[u8], text: &mut [u8]) -> Session
-    requires { ⌜ 938 ≤ length (now text) ⌝ }
+    requires { ⌜ 955 ≤ length (now text) ⌝ }
 {
     if payload.len() != 0 {
         return session::bad_record(session);
@@ -55,7 +55,7 @@ fn dump(session: Session, payload: &[u8], text: &mut [u8]) -> Session
 
 // The records that do no call.
 pub fn answer_fields(session: Session, op: u8, payload: &[u8], text: &mut [u8]) -> Session
-    requires { ⌜ 938 ≤ length (now text) ⌝ }
+    requires { ⌜ 955 ≤ length (now text) ⌝ }
 {
     match op {
         b'S' => set(session, payload),
@@ -80,7 +80,7 @@ pub fn answer(
     payload: &[u8],
     text: &mut [u8],
 ) -> Session
-    requires { ⌜ 938 ≤ length (now text) ⌝ }
+    requires { ⌜ 955 ≤ length (now text) ⌝ }
 {
     let given = session.kt_run;
     match op {

@@ -1,7 +1,7 @@
 // The lines that are written, each put together in a text as long as the longest.
 //
-// The line of a run is two digits, numbers of a space and 16 digits each, and a line end: 28 numbers and 479 bytes, or of KT 55
-// numbers and 938 bytes.
+// The line of a run is two digits, numbers of a space and 16 digits each, and a line end: 29 numbers and 496 bytes, or of KT 56
+// numbers and 955 bytes.
 ghost use mathlib.Core.Path.{_≡_};
 ghost use mathlib.Core.Bool.{true};
 ghost use Prim.Native.Nat.{_+_, _*_, _<_, _≤_};
@@ -55,29 +55,30 @@ fn put_lanes(text: &mut [u8], k: usize, lanes: [u64; 25])
 
 // Puts the phase and the bytes absorbed and squeezed, with which the line of a run begins.
 fn put_totals(text: &mut [u8], phase: u8, absorbed: u64, squeezed: u64)
-    requires { ⌜ 479 ≤ length (now text) ⌝ }
+    requires { ⌜ 496 ≤ length (now text) ⌝ }
 {
     put_digits(text, 0, &[phase]);
     put_number(text, 0, absorbed);
     put_number(text, 1, squeezed);
 }
 
-// Writes the phase, the bytes absorbed, the bytes squeezed, the position and the lanes.
+// Writes the phase, the bytes absorbed, the bytes squeezed, the permutations, the position and the lanes.
 pub fn write_run(run: hasher::Run, text: &mut [u8]) -> bool
-    requires { ⌜ 479 ≤ length (now text) ⌝ }
+    requires { ⌜ 496 ≤ length (now text) ⌝ }
 {
     let lanes = run.lanes;
     put_totals(text, run.phase, run.absorbed, run.squeezed);
-    put_number(text, 2, run.position as u64);
-    put_lanes(text, 3, lanes);
-    put(text, 478, b'\n');
-    io::write_all(STDOUT_FILENO, &text[0..479])
+    put_number(text, 2, run.permutations);
+    put_number(text, 3, run.position as u64);
+    put_lanes(text, 4, lanes);
+    put(text, 495, b'\n');
+    io::write_all(STDOUT_FILENO, &text[0..496])
 }
 
 // The same of KT: after the bytes squeezed the customization bytes; the positions of the final node and of the leaf, then the lanes of
 // each.
 pub fn write_kt_run(run: kangarootwelve::Run, text: &mut [u8]) -> bool
-    requires { ⌜ 938 ≤ length (now text) ⌝ }
+    requires { ⌜ 955 ≤ length (now text) ⌝ }
 {
     let node = run.node;
     let leaf = run.leaf;
@@ -85,12 +86,13 @@ pub fn write_kt_run(run: kangarootwelve::Run, text: &mut [u8]) -> bool
     let leaf_lanes = leaf.lanes;
     put_totals(text, run.phase, run.absorbed, run.squeezed);
     put_number(text, 2, run.customized);
-    put_number(text, 3, node.position as u64);
-    put_number(text, 4, leaf.position as u64);
-    put_lanes(text, 5, node_lanes);
-    put_lanes(text, 30, leaf_lanes);
-    put(text, 937, b'\n');
-    io::write_all(STDOUT_FILENO, &text[0..938])
+    put_number(text, 3, run.permutations);
+    put_number(text, 4, node.position as u64);
+    put_number(text, 5, leaf.position as u64);
+    put_lanes(text, 6, node_lanes);
+    put_lanes(text, 31, leaf_lanes);
+    put(text, 954, b'\n');
+    io::write_all(STDOUT_FILENO, &text[0..955])
 }
 
 pub fn write_status(status: u8) -> bool {

@@ -49,7 +49,7 @@ use session::Session;
 
 // The records, but R, that are for the run in hand.
 fn answer_run(session: Session, op: u8, payload: &[u8], text: &mut [u8]) -> Session
-    requires { ⌜ 938 ≤ length (now text) ⌝ }
+    requires { ⌜ 955 ≤ length (now text) ⌝ }
 {
     let chosen = session.chosen;
     match chosen {

@@ -59,7 +59,7 @@ fn set(session: Session, payload: &[u8]) -> Session {
 }
 
 fn dump(session: Session, payload: &[u8], text: &mut [u8]) -> Session
-    requires { ⌜ 479 ≤ length (now text) ⌝ }
+    requires { ⌜ 496 ≤ length (now text) ⌝ }
 {
     if payload.len() != 0 {
         return session::bad_record(session);
@@ -75,7 +75,7 @@ pub fn answer(
     payload: &[u8],
     text: &mut [u8],
 ) -> Session
-    requires { ⌜ 479 ≤ length (now text) ⌝ }
+    requires { ⌜ 496 ≤ length (now text) ⌝ }
 {
     let given = session.run;
     match op {
