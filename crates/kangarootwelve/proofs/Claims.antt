@@ -16,14 +16,14 @@ use Rattle.sponge.specs.Runs.{freshRun, perform}
 use Rattle.sponge.specs.Streaming as streaming
 use Rattle.sponge.specs.Streaming.{History}
 use Rattle.sponge.proofs.Position.{After}
-use Rattle.sponge.proofs.Count.{added, after-counted}
+use Rattle.sponge.proofs.Count.{added, after-counted, closed-words}
 use Rattle.sponge.proofs.Corollaries.{history-held}
 use Rattle.sponge.proofs.Streaming.{told-fits}
 use Rattle.sponge.proofs.Reachable as generic
 use Rattle.kangarootwelve.specs.Published.{chunk, lengthEncode}
 use Rattle.kangarootwelve.specs.Transcript.{customizedOf, Callable, rules}
 use Rattle.kangarootwelve.specs.Tree.{Tree, absorbTreeOf, closeToOf, finalizedOf}
-use Rattle.kangarootwelve.specs.Count.{lanesCounted, CountedTree, permutationsOf, openKt, closedKt}
+use Rattle.kangarootwelve.specs.Count.{lanesCounted, CountedTree, permutationsOf, nodeLength, openKt, closedKt}
 use Rattle.kangarootwelve.specs.Model.{machine, seen, held, freshOf, answerOf, replyOf}
 use Rattle.kangarootwelve.specs.Claims.{freshCount, squeezedTree, told, ran, definedAt, defined, due, Counts, Reached, Five}
 use Rattle.kangarootwelve.specs.declared.Run.{Run}
@@ -86,6 +86,8 @@ module _ (rate chaining : ℕ) (pos : 0 < rate) where
   counts = record {
     definition = λ cs. totals cs ∙ sym (defined-due (told rate chaining cs .left));
     totals = totals;
+    one-chunk = closed-words rate pos;
+    more-chunks = λ k o j. rw (closed-words rate pos (nodeLength rate chaining (suc k)) j, closed-words rate pos chunk chaining, closed-words rate pos o chaining);
   }
 
   -- ---- status 5

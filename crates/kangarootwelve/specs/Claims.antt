@@ -3,19 +3,21 @@
 -- Assumes nothing.
 use mathlib.Core.Path.{_≡_}
 use mathlib.Core.List.{List, [], _∷_, _++_}
-use Prim.Native.Nat.{ℕ, _+_}
+use Prim.Native.Nat.{ℕ, suc, _+_, _*_}
 use lib.ListN.{length}
 use Rattle.keccak.specs.Permutation.{permuted}
 use Rattle.sponge.specs.Status.{unreachable}
 use Rattle.sponge.specs.Callable.{All}
+use Rattle.sponge.specs.Cut.{ceil}
 use Rattle.sponge.specs.Waiting.{At}
 use Rattle.sponge.specs.Model.{afterBytes}
-use Rattle.sponge.specs.Count.{counted, freshCounted}
+use Rattle.sponge.specs.Count.{counted, freshCounted, readCount}
 use Rattle.sponge.specs.Transcript.{Call, Phase, Phase.absorbing, Phase.customizing, Phase.squeezing, phaseNumber, Transcript, freshTranscript, transcribe}
 use Rattle.sponge.specs.Streaming.{History, history}
+use Rattle.kangarootwelve.specs.Published.{chunk}
 use Rattle.kangarootwelve.specs.Transcript.{customizedOf, Callable, rules}
 use Rattle.kangarootwelve.specs.Tree.{absorbTreeOf, finalizedOf}
-use Rattle.kangarootwelve.specs.Count.{lanesCounted, CountedTree, permutationsOf, countDue}
+use Rattle.kangarootwelve.specs.Count.{lanesCounted, CountedTree, permutationsOf, nodeLength, closedTree, countDue}
 use Rattle.kangarootwelve.specs.Model.{freshOf, answerOf, replyOf}
 use Rattle.kangarootwelve.specs.declared.Run.{Run}
 
@@ -54,6 +56,12 @@ module _ (rate chaining : ℕ) where
     -- after every list of calls, refused ones included, the run has the definition's for the book, and these are what the totals tell
     pub definition : (cs : List (Call (List ℕ))) → ran cs .left .permutations ≡ defined (told cs .left)
     pub totals : (cs : List (Call (List ℕ))) → ran cs .left .permutations ≡ due (told cs .left)
+    -- in the request's words, once closed with o bytes in the last chunk and j squeezed: each node has TurboSHAKE's for its bytes. One chunk is one
+    -- node; of more, there are the final node, k full leaves and the last one
+    pub one-chunk : (o j : ℕ) → closedTree rate chaining 0 o j ≡ ceil rate (o + 1) + readCount rate j
+    pub more-chunks : (k o j : ℕ)
+        → closedTree rate chaining (suc k) o j
+        ≡ ceil rate (nodeLength rate chaining (suc k) + 1) + readCount rate j + k * (ceil rate (chunk + 1) + readCount rate chaining) + (ceil rate (o + 1) + readCount rate chaining)
 
   -- ---- status 5
 

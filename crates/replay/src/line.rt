@@ -75,6 +75,14 @@ pub fn write_run(run: hasher::Run, text: &mut [u8]) -> bool
     io::write_all(STDOUT_FILENO, &text[0..496])
 }
 
+// Puts the positions of a run of KT.
+fn put_positions(text: &mut [u8], node: u64, leaf: u64)
+    requires { ⌜ 955 ≤ length (now text) ⌝ }
+{
+    put_number(text, 4, node);
+    put_number(text, 5, leaf);
+}
+
 // The same of KT: after the bytes squeezed the customization bytes; the positions of the final node and of the leaf, then the lanes of
 // each.
 pub fn write_kt_run(run: kangarootwelve::Run, text: &mut [u8]) -> bool
@@ -87,8 +95,7 @@ pub fn write_kt_run(run: kangarootwelve::Run, text: &mut [u8]) -> bool
     put_totals(text, run.phase, run.absorbed, run.squeezed);
     put_number(text, 2, run.customized);
     put_number(text, 3, run.permutations);
-    put_number(text, 4, node.position as u64);
-    put_number(text, 5, leaf.position as u64);
+    put_positions(text, node.position as u64, leaf.position as u64);
     put_lanes(text, 6, node_lanes);
     put_lanes(text, 31, leaf_lanes);
     put(text, 954, b'\n');
