@@ -1,6 +1,6 @@
 -- What a caller knows of calls in a row on the code's own structs: a message absorbed in whatever pieces, finalized and squeezed.
 -- Assumes nothing.
-use mathlib.Core.Path.{_≡_, refl, sym, ap, _∙_}
+use mathlib.Core.Path.{_≡_, refl, ap, _∙_}
 use mathlib.Core.List.{List, [], _++_}
 use Prim.Native.Nat.{ℕ, _≤_, _<_}
 use lib.ListN.{length}
@@ -9,7 +9,7 @@ use Rattle.sponge.specs.Transcript.{Call.absorb, Call.finalize, Call.squeeze, R
 use Rattle.sponge.specs.Runs as runs
 use Rattle.sponge.proofs.Pieces as pieces
 use Rattle.hasher.specs.Function.{messageLimit, Function, output, rules}
-use Rattle.hasher.specs.Model.{machine, held, freshOf, performOf, writtenOf, answer, written}
+use Rattle.hasher.specs.Model.{machine, held, freshOf, answer, written}
 use Rattle.hasher.specs.declared.Run.{Run}
 use Rattle.hasher.specs.declared.Answer.{Answer}
 use Rattle.hasher.proofs.Claims.{replied, answer-replied, written-lent}

@@ -46,7 +46,7 @@ module _ {A : Type 0} (F : Function A) where
     outputLimit = F .outputLimit;
   }
 
-  -- ---- the permutations of the definition so far (request Q-10): the bytes joined go through the sponge that counts, and no total is looked at
+  -- ---- the permutations of the definition so far (request Q-10): the bytes joined go through the sponge that counts, and no formula over totals is used
 
   abbrev pub absorbedCounted : List ℕ → Counted
   absorbedCounted m = steps (counted permutation) (uncounted xorByte) (F .rate) freshCounted m

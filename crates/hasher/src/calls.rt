@@ -92,8 +92,8 @@ fn count_at_close(rate: usize, at: Progress) -> u64
     at.absorbed / (rate as u64) + 1
 }
 
-// Whether a run reached from a fresh one has this phase, these totals, this position and these permutations. The phases share one division, which
-// gives the position and the permutations: so the test is short enough for the compiler to put it into each call.
+// Whether a run reached from a fresh one has this phase, these totals, this position and these permutations. The phases share the division of the
+// bytes that tell the position.
 fn is_reachable(rate: usize, limit: u32, at: Progress) -> bool
     requires { ⌜ (0 < rate) × (rate ≤ 200) ⌝ }
     ensures { λ r. ⌜ r ≡ reachable rate limit (at .position) (at .phase) (at .absorbed) (at .squeezed) (at .permutations) ⌝ }

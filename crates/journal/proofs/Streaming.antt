@@ -18,10 +18,10 @@ use Rattle.kangarootwelve.specs.Transcript as kt
 use Rattle.kangarootwelve.specs.Transcript.{customizedOf}
 use Rattle.kangarootwelve.specs.Published.{kt128}
 use Rattle.kangarootwelve.specs.Model.{Nodes, machine}
-use Rattle.kangarootwelve.specs.Claims.{due}
+use Rattle.kangarootwelve.specs.Claims.{toldCount}
 use Rattle.kangarootwelve.proofs.Laws as kt-laws
 use Rattle.kangarootwelve.proofs.Streaming.{told-customized, count-told}
-use Rattle.kangarootwelve.proofs.Claims.{defined-due}
+use Rattle.kangarootwelve.proofs.Claims.{defined-told}
 use Rattle.kangarootwelve.proofs.Answers.{output-published}
 use Rattle.journal.specs.Published.{framed, message}
 use Rattle.journal.specs.Transcript.{ownStatus, framedCall, rulesAt, transcribe}
@@ -100,14 +100,14 @@ streaming cs =
     let e : machine 168 32 .absorb 0 (machine 168 32 .fresh) [] ≡ machine 168 32 .fresh = laws .absorb-nothing 0 (machine 168 32 .fresh) in
     let m : told cs .left .absorbed ≡ message (taken freshTranscript cs) = taken-message cs freshTranscript in
     let day : ran cs .left ≡ dayTold (told cs .left) = rw e at (s .run) in
-    let n : ran cs .left .run .permutations ≡ due 168 32 (told cs .left) = ap (λ (j : Journal). j .run .permutations) day ∙ count-told 168 32 rate-positive (told cs .left) (s .fits) in
+    let n : ran cs .left .run .permutations ≡ toldCount 168 32 (told cs .left) = ap (λ (j : Journal). j .run .permutations) day ∙ count-told 168 32 rate-positive (told cs .left) (s .fits) in
     record {
       statuses = rw e at (s .statuses);
       bytes = rw e at (s .bytes);
       day = day;
       absorbed = m;
       output = streaming-output cs ∙ output-digest (told cs .left .absorbed) (told cs .left .phase) (told cs .left .squeezed) (taken freshTranscript cs) m;
-      permutations = n ∙ sym (defined-due 168 32 rate-positive (told cs .left));
+      permutations = n ∙ sym (defined-told 168 32 rate-positive (told cs .left));
       totals = n;
     }
 

@@ -9,7 +9,7 @@ use Rattle.sponge.specs.Runs.{runOf}
 use Rattle.sponge.specs.Streaming.{History, history, joined}
 use Rattle.kangarootwelve.specs.Transcript as kangarootwelve
 use Rattle.kangarootwelve.specs.Model.{machine}
-use Rattle.kangarootwelve.specs.Claims.{defined, due}
+use Rattle.kangarootwelve.specs.Claims.{definedCount, toldCount}
 use Rattle.journal.specs.Published.{message, digest}
 use Rattle.journal.specs.Transcript.{transcribe}
 use Rattle.journal.specs.Model.{dayOf, freshDay, replyOf}
@@ -51,5 +51,5 @@ pub record Streaming (cs : List (Call (List ℕ))) : Type 0 where
   pub day : ran cs .left ≡ dayOf (runOf (kangarootwelve.rules 168 32) (machine 168 32) (told cs .left))
   pub absorbed : told cs .left .absorbed ≡ message (taken freshTranscript cs)
   pub output : joined (ran cs .bytes) ≡ digestOf (told cs .left .phase) (taken freshTranscript cs) (told cs .left .squeezed)
-  pub permutations : ran cs .left .run .permutations ≡ defined 168 32 (told cs .left)
-  pub totals : ran cs .left .run .permutations ≡ due 168 32 (told cs .left)
+  pub permutations : ran cs .left .run .permutations ≡ definedCount 168 32 (told cs .left)
+  pub totals : ran cs .left .run .permutations ≡ toldCount 168 32 (told cs .left)

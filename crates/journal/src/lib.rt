@@ -16,7 +16,7 @@ use sponge::status;
 // The most bytes of an event.
 pub const EVENT_LIMIT: u64 = 65535;
 
-// A day: document 01, with the message of request Q-1. Its run is KT128's: two states, the phase and the three totals, however long the day.
+// A day: document 01, with the message of request Q-1. Its run is KT128's: two states, the phase, the three totals and the permutations, however long the day.
 pub struct Journal {
     pub run: Run,
 }

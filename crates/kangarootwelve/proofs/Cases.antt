@@ -9,7 +9,6 @@ use native.Mathlib.Omega.{arith}
 use borrow.Author.Tests.{eq-eqb, ne-eqb, eqb-true}
 use lib.Dec.{T, eqb}
 use lib.ListN.{length, replicate}
-use Rattle.keccak.specs.Permutation.{permuted}
 use Rattle.sponge.specs.Waiting.{At, positionAfter, indexAfter}
 use Rattle.sponge.specs.Model.{Sponge, fresh, Outcome, squeezeCall, squeezeOutput}
 use Rattle.sponge.specs.Transcript.{Call, Call.absorb, Call.customize, Call.finalize, Call.finish, Call.squeeze}
@@ -31,7 +30,7 @@ use Rattle.kangarootwelve.specs.Inside.{Fits, treeOf, placeOf, openDue, 
 use Rattle.kangarootwelve.specs.declared.Run.{Run}
 use Rattle.kangarootwelve.specs.declared.Place.{Place}
 use Rattle.kangarootwelve.specs.declared.Progress.{Progress}
-use Rattle.kangarootwelve.proofs.Published.{chunk-pos, chunk-is}
+use Rattle.kangarootwelve.proofs.Published.{chunk-pos}
 use Rattle.kangarootwelve.proofs.Nodes.{fresh-is, position-le}
 use Rattle.kangarootwelve.proofs.Tests.{most-fits}
 use Rattle.kangarootwelve.proofs.Laws.{positions, due, customization-taken, customization-long, shape, count-due, stays, first-is, second-is, third-is}
@@ -115,7 +114,7 @@ module _ (rate chaining : ℕ) (r : Run) where
   abbrev numbered : ℕ → runs.Run Nodes → runs.Run Nodes
   numbered n w = record { state = record { final = w .state .final; leaf = w .state .leaf; customized = w .state .customized; permutations = n }; phase = w .phase; absorbed = w .absorbed; squeezed = w .squeezed }
 
-  pub done-counted : 0 < rate → Passes true → (c : Call (List ℕ)) → runStatus (rules rate chaining) (machine rate chaining) (seen r) c ≡ 0
+  done-counted : 0 < rate → Passes true → (c : Call (List ℕ)) → runStatus (rules rate chaining) (machine rate chaining) (seen r) c ≡ 0
       → (w : runs.Run Nodes) → w ≡ worked (rules rate chaining) (machine rate chaining) (seen r) c
       → (n : ℕ) → n ≡ countDue rate chaining (w .phase) (w .absorbed + w .state .customized) (w .state .customized) (w .squeezed)
       → record { status = 0; run = held (numbered n w) } ≡ answerOf rate chaining r c
@@ -155,7 +154,7 @@ module _ (rate chaining : ℕ) (r : Run) where
       by false false h t w f = (answers.status-5 (rules rate chaining) (machine rate chaining) (seen r) (squeeze k) (passes false t) ∙ sym w, λ z. omega (arith, w, z))
 
   -- what an open run that 5 does not refuse has
-  pub passed-due : Passes true → (r .phase ≡ 1 → ⊥)
+  passed-due : Passes true → (r .phase ≡ 1 → ⊥)
       → (r .node .position ≡ finalDue rate chaining (r .absorbed + r .customized)) × (r .leaf .position ≡ leafDue rate (r .absorbed + r .customized)) × (r .permutations ≡ openKt rate chaining (r .absorbed + r .customized))
   unfolding machine
   passed-due t c =

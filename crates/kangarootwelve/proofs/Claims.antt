@@ -2,42 +2,41 @@
 -- Assumes nothing.
 use mathlib.Core.Path.{_≡_, refl, sym, ap, _∙_}
 use mathlib.Core.List.{List, [], _∷_, _++_}
-use Prim.Native.Nat.{ℕ, zero, suc, _+_, _<_}
+use Prim.Native.Nat.{ℕ, zero, suc, _+_, _*_, _<_}
 use native.Mathlib.Nat.{add-zero, zero-add}
 use native.Mathlib.Omega.{arith}
 use lib.ListN.{length, length-append}
 use Rattle.keccak.specs.Permutation.{permuted}
-use Rattle.sponge.specs.Status.{unreachable}
-use Rattle.sponge.specs.Waiting.{At, positionAfter}
+use Rattle.sponge.specs.Waiting.{At, positionAfter, indexAfter}
 use Rattle.sponge.specs.Count.{Counted, spongeOf}
 use Rattle.sponge.specs.Model.{padWith}
-use Rattle.sponge.specs.Transcript.{Call, Phase, Phase.absorbing, Phase.customizing, Phase.squeezing, Transcript}
+use Rattle.sponge.specs.Transcript.{Call, Phase, Phase.absorbing, Phase.customizing, Phase.squeezing, phaseNumber, Transcript}
 use Rattle.sponge.specs.Runs.{freshRun, perform}
 use Rattle.sponge.specs.Streaming as streaming
 use Rattle.sponge.specs.Streaming.{History}
 use Rattle.sponge.proofs.Position.{After}
-use Rattle.sponge.proofs.Count.{added, after-counted, closed-words}
+use Rattle.sponge.proofs.Count.{added, after-counted, open-words, closed-words}
 use Rattle.sponge.proofs.Corollaries.{history-held}
 use Rattle.sponge.proofs.Streaming.{told-fits}
 use Rattle.sponge.proofs.Reachable as generic
 use Rattle.kangarootwelve.specs.Published.{chunk, lengthEncode}
 use Rattle.kangarootwelve.specs.Transcript.{customizedOf, Callable, rules}
 use Rattle.kangarootwelve.specs.Tree.{Tree, absorbTreeOf, closeToOf, finalizedOf}
-use Rattle.kangarootwelve.specs.Count.{lanesCounted, CountedTree, permutationsOf, nodeLength, openKt, closedKt}
+use Rattle.kangarootwelve.specs.Count.{lanesCounted, CountedTree, permutationsOf, nodeLength, treeCount, closedTree, treeWords, closedWords, openKt, closedKt}
 use Rattle.kangarootwelve.specs.Model.{machine, seen, held, freshOf, answerOf, replyOf}
-use Rattle.kangarootwelve.specs.Claims.{freshCount, squeezedTree, told, ran, definedAt, defined, due, Counts, Reached, Five}
+use Rattle.kangarootwelve.specs.Claims.{freshCountedTree, squeezedTree, told, ran, definedCount, toldCount, fed, whole, Counts, Reached, Five, Strengths}
 use Rattle.kangarootwelve.specs.declared.Run.{Run}
-use Rattle.kangarootwelve.proofs.Count.{countTree, countFinalize, Told, counted-told, finish-told, squeezed-told}
-use Rattle.kangarootwelve.proofs.CountedTree.{atMap, both, both-absorbed, finalized-number}
-use Rattle.kangarootwelve.proofs.Counting.{numberAt}
+use Rattle.kangarootwelve.proofs.Numbered.{numberTree, numberFinalize, Told, numbered-told, finish-told, squeezed-told}
+use Rattle.kangarootwelve.proofs.CountedTree.{both-absorbed, finalized-number, numberAt}
 use Rattle.kangarootwelve.proofs.Laws.{positions, first-is, second-is, third-is, freshNodes, fresh-due, told-at, absorb-due, laws}
+use Rattle.kangarootwelve.proofs.Cases.{open-count, closed-count}
 use Rattle.kangarootwelve.proofs.Streaming.{corollaries, streaming-code, count-told}
 
 module _ (rate chaining : ℕ) (pos : 0 < rate) where
   -- ---- the permutations
 
   -- of M alone, or of M and C in the customization phase
-  opened : (s : List ℕ) → permutationsOf (absorbTreeOf lanesCounted rate chaining freshCount s .value) ≡ openKt rate chaining (length s)
+  opened : (s : List ℕ) → permutationsOf (absorbTreeOf lanesCounted rate chaining freshCountedTree s .value) ≡ openKt rate chaining (length s)
   opened s =
       third-is (absorb-due rate chaining pos 0 freshNodes s 0 (fresh-due rate chaining pos)) ∙ ap (openKt rate chaining) (zero-add (length s))
 
@@ -49,45 +48,83 @@ module _ (rate chaining : ℕ) (pos : 0 < rate) where
   -- the close after M and C
   module _ (f c : List ℕ) where
     abbrev closed : CountedTree
-    closed = finalizedOf lanesCounted rate chaining (absorbTreeOf lanesCounted rate chaining freshCount f) c
+    closed = finalizedOf lanesCounted rate chaining (absorbTreeOf lanesCounted rate chaining freshCountedTree f) c
 
     closed-number : permutationsOf closed ≡ closedKt rate chaining (length f + length c) (length c) 0
     closed-number =
-        let t : At (Tree × ℕ) = countTree rate chaining (numberAt 0 freshNodes) f in
-        let e : After chunk (Told rate chaining pos) (length f) t = rw zero-add at (counted-told rate chaining pos 0 (numberAt 0 freshNodes) f (told-at rate chaining pos 0 freshNodes (fresh-due rate chaining pos))) in
-        finalized-number rate chaining (absorbTreeOf lanesCounted rate chaining freshCount f) c
-        ∙ ap (λ (u : At (Tree × ℕ)). countFinalize rate chaining u c) (both-absorbed rate chaining freshCount f)
-        ∙ finish-told rate chaining pos (length f + length c) (length c) (countTree rate chaining t c) (counted-told rate chaining pos (length f) t c e)
+        let t : At (Tree × ℕ) = numberTree rate chaining (numberAt 0 freshNodes) f in
+        let e : After chunk (Told rate chaining pos) (length f) t = rw zero-add at (numbered-told rate chaining pos 0 (numberAt 0 freshNodes) f (told-at rate chaining pos 0 freshNodes (fresh-due rate chaining pos))) in
+        finalized-number rate chaining (absorbTreeOf lanesCounted rate chaining freshCountedTree f) c
+        ∙ ap (λ (u : At (Tree × ℕ)). numberFinalize rate chaining u c) (both-absorbed rate chaining freshCountedTree f)
+        ∙ finish-told rate chaining pos (length f + length c) (length c) (numberTree rate chaining t c) (numbered-told rate chaining pos (length f) t c e)
 
     read : (n : ℕ) → permutationsOf (squeezedTree rate n closed) ≡ closedKt rate chaining (length f + length c) (length c) n
     read n =
         let s : Counted = closed .final in
-        let t : CountedTree = absorbTreeOf lanesCounted rate chaining (absorbTreeOf lanesCounted rate chaining (absorbTreeOf lanesCounted rate chaining freshCount f) c) (lengthEncode (length c)) .value in
+        let t : CountedTree = absorbTreeOf lanesCounted rate chaining (absorbTreeOf lanesCounted rate chaining (absorbTreeOf lanesCounted rate chaining freshCountedTree f) c) (lengthEncode (length c)) .value in
         let a = ap (λ (u : Counted). u .value .1) (after-counted permuted rate n (spongeOf s) (s .value .1)) in
         let z : added rate (s .position) n ≡ added rate (positionAfter rate 0) n = ap (λ (p : ℕ). added rate p n) (closed-at-0 (t .index) (t .final) (t .leaf)) in
         let e : closedKt rate chaining (length f + length c) (length c) 0 + added rate (positionAfter rate 0) n ≡ closedKt rate chaining (length f + length c) (length c) n =
         squeezed-told rate chaining pos (length f + length c) (length c) 0 n ∙ ap (closedKt rate chaining (length f + length c) (length c)) (zero-add n) in
         omega (arith, a, z, e, closed-number)
 
-  defined-by : (f : List ℕ) (h : Phase (List ℕ)) (n : ℕ) → defined rate chaining (record { absorbed = f; phase = h; squeezed = n }) ≡ due rate chaining (record { absorbed = f; phase = h; squeezed = n })
+  defined-by : (f : List ℕ) (h : Phase (List ℕ)) (n : ℕ) → definedCount rate chaining (record { absorbed = f; phase = h; squeezed = n }) ≡ toldCount rate chaining (record { absorbed = f; phase = h; squeezed = n })
   defined-by f absorbing n = opened f ∙ ap (openKt rate chaining) (sym (add-zero (length f)))
   defined-by f (customizing c) n = opened (f ++ c) ∙ ap (openKt rate chaining) (length-append f c)
   defined-by f (squeezing c) n = read f c n
 
-  pub defined-due : (t : Transcript (List ℕ)) → defined rate chaining t ≡ due rate chaining t
-  defined-due t = defined-by (t .absorbed) (t .phase) (t .squeezed)
+  pub defined-told : (t : Transcript (List ℕ)) → definedCount rate chaining t ≡ toldCount rate chaining t
+  defined-told t = defined-by (t .absorbed) (t .phase) (t .squeezed)
 
-  totals : (cs : List (Call (List ℕ))) → ran rate chaining cs .left .permutations ≡ due rate chaining (told rate chaining cs .left)
+  totals : (cs : List (Call (List ℕ))) → ran rate chaining cs .left .permutations ≡ toldCount rate chaining (told rate chaining cs .left)
   totals cs =
       ap (λ (h : History Run). h .left .permutations) (streaming-code rate chaining pos cs)
       ∙ count-told rate chaining pos (told rate chaining cs .left) (told-fits (rules rate chaining) (machine rate chaining) (laws rate chaining pos) cs)
 
+  -- in the request's words
+  tree-words : (q o : ℕ) → treeCount rate chaining q o ≡ treeWords rate chaining q o
+  tree-words zero o = open-words rate pos o
+  tree-words (suc k) o =
+      let a = open-words rate pos (chunk + 8 + k * chaining) in
+      let b = ap (λ (n : ℕ). k * n) (closed-words rate pos chunk chaining) in
+      let d = open-words rate pos o in
+      λ i. a i + b i + d i
+
+  closed-tree-words : (q o j : ℕ) → closedTree rate chaining q o j ≡ closedWords rate chaining q o j
+  closed-tree-words zero o j = closed-words rate pos o j
+  closed-tree-words (suc k) o j =
+      let a = closed-words rate pos (nodeLength rate chaining (suc k)) j in
+      let b = ap (λ (n : ℕ). k * n) (closed-words rate pos chunk chaining) in
+      let d = closed-words rate pos o chaining in
+      λ i. a i + b i + d i
+
+  phase-told : (cs : List (Call (List ℕ))) → ran rate chaining cs .left .phase ≡ phaseNumber (told rate chaining cs .left .phase)
+  phase-told cs = ap (λ (h : History Run). h .left .phase) (streaming-code rate chaining pos cs)
+
+  while-open : (cs : List (Call (List ℕ))) → (ran rate chaining cs .left .phase ≡ 1 → ⊥)
+      → ran rate chaining cs .left .permutations
+      ≡ treeWords rate chaining (indexAfter chunk (fed rate chaining (told rate chaining cs .left))) (positionAfter chunk (fed rate chaining (told rate chaining cs .left)))
+  unfolding openKt
+  while-open cs h =
+      let t : Transcript (List ℕ) = told rate chaining cs .left in
+      totals cs ∙ sym (open-count rate chaining (phaseNumber (t .phase)) (fed rate chaining t) (customizedOf (t .phase)) (t .squeezed) (λ e. h (phase-told cs ∙ e)))
+      ∙ tree-words (indexAfter chunk (fed rate chaining t)) (positionAfter chunk (fed rate chaining t))
+
+  once-closed : (cs : List (Call (List ℕ))) → ran rate chaining cs .left .phase ≡ 1
+      → ran rate chaining cs .left .permutations
+      ≡ closedWords rate chaining (indexAfter chunk (whole rate chaining (told rate chaining cs .left))) (positionAfter chunk (whole rate chaining (told rate chaining cs .left))) (told rate chaining cs .left .squeezed)
+  unfolding closedKt
+  once-closed cs h =
+      let t : Transcript (List ℕ) = told rate chaining cs .left in
+      totals cs ∙ sym (closed-count rate chaining (phaseNumber (t .phase)) (fed rate chaining t) (customizedOf (t .phase)) (t .squeezed) (sym (phase-told cs) ∙ h))
+      ∙ closed-tree-words (indexAfter chunk (whole rate chaining t)) (positionAfter chunk (whole rate chaining t)) (t .squeezed)
+
   pub counts : Counts rate chaining
   counts = record {
-    definition = λ cs. totals cs ∙ sym (defined-due (told rate chaining cs .left));
+    definition = λ cs. totals cs ∙ sym (defined-told (told rate chaining cs .left));
     totals = totals;
-    one-chunk = closed-words rate pos;
-    more-chunks = λ k o j. rw (closed-words rate pos (nodeLength rate chaining (suc k)) j, closed-words rate pos chunk chaining, closed-words rate pos o chaining);
+    while-open = while-open;
+    once-closed = once-closed;
   }
 
   -- ---- status 5
@@ -138,3 +175,11 @@ module _ (rate chaining : ℕ) (pos : 0 < rate) where
     unreached-five = λ r c h. corollaries rate chaining pos .five .unreached-five (seen r) c (λ g. h (to-code r g));
     other-reached = λ r c h. to-code r (corollaries rate chaining pos .five .other-reached (seen r) c h);
   }
+
+pub strengths : Strengths
+strengths = record {
+  counts128 = counts 168 32 (omega arith);
+  counts256 = counts 136 64 (omega arith);
+  five128 = five 168 32 (omega arith);
+  five256 = five 136 64 (omega arith);
+}

@@ -1,50 +1,31 @@
--- The tree whose nodes count their permutations is the tree, and the number of both nodes is what `Count` says of the tree and a number.
+-- The tree whose nodes count their permutations is the tree, and its two numbers together are the one of `Numbered`.
 -- Assumes nothing.
 use mathlib.Core.Path.{_≡_, refl, sym, ap, _∙_}
 use mathlib.Core.List.{List, [], _∷_, _++_}
-use mathlib.Core.Bool.{Bool, true, false}
 use Prim.Native.Nat.{ℕ, zero, suc, _+_}
 use native.Mathlib.Nat.{add-zero, add-assoc}
 use native.Mathlib.Omega.{arith}
 use lib.ListN.{length}
-use lib.Dec.{eqb}
 use Rattle.keccak.specs.Permutation.{permuted}
 use Rattle.sponge.specs.Published.{xorByte, zeroLanes}
-use Rattle.sponge.specs.Waiting.{At, step, steps}
+use Rattle.sponge.specs.Waiting.{At, positionAfter}
 use Rattle.sponge.specs.Model.{Sponge, fresh, absorbBytes, pad, squeezeBytes, afterBytes}
 use Rattle.sponge.specs.Count.{Counted, counted, countedFrom, spongeOf}
 use Rattle.sponge.proofs.Valid.{pad-position}
 use Rattle.sponge.proofs.Count.{added, padAdded, steps-counted, pad-counted, after-counted}
 use Rattle.kangarootwelve.specs.Published.{lengthEncode, chunk, trailer, singleDomain, intermediateDomain, finalDomain}
-use Rattle.kangarootwelve.specs.Tree.{Tree, absorbNode, padNode, putToOf, putByteOf, endingOf, squeezedLeaf, endChunkOf, absorbTreeOf, closeToOf, closedOf, finishedOf, finalizedOf, putTo, ending, endChunk}
+use Rattle.kangarootwelve.specs.Tree.{Tree, absorbNode, padNode, putToOf, putByteOf, endingOf, squeezedLeaf, endChunkOf, absorbTreeOf, closeToOf, putTo, ending, endChunk}
 use Rattle.kangarootwelve.specs.Count.{lanesCounted, CountedTree, permutationsOf, countAbsorbed, countFinished, countFinalized}
-use Rattle.kangarootwelve.proofs.Count.{putAdded, leafAdded, endAdded, closeAdded, countedPut, countedEnd, countTree, countClose, countFinish, countFinalize}
-
--- ---- a fold seen through a function of its value
-
-abbrev pub atMap : {X Y : Type 0} → (X → Y) → At X → At Y
-atMap f s = record { value = f (s .value); position = s .position }
-
-module _ {X Y : Type 0} (f : X → Y) (full : X → X) (put : X → ℕ → ℕ → X) (full′ : Y → Y) (put′ : Y → ℕ → ℕ → Y)
-    (on-full : (x : X) → f (full x) ≡ full′ (f x)) (on-put : (x : X) (i b : ℕ) → f (put x i b) ≡ put′ (f x) i b) (r : ℕ) where
-  step-map : (s : At X) (b : ℕ) → atMap f (step full put r s b) ≡ step full′ put′ r (atMap f s) b
-  step-map s b = by (eqb (s .position) r) refl
-    where
-      by : (t : Bool) → eqb (s .position) r ≡ t → atMap f (step full put r s b) ≡ step full′ put′ r (atMap f s) b
-      by true e = rw e (ap (λ (y : Y). record { value = y; position = 1 }) (on-put (full (s .value)) 0 b ∙ ap (λ (y : Y). put′ y 0 b) (on-full (s .value))))
-      by false e = rw e (ap (λ (y : Y). record { value = y; position = suc (s .position) }) (on-put (s .value) (s .position) b))
-
-  pub steps-map : (s : At X) (p : List ℕ) → atMap f (steps full put r s p) ≡ steps full′ put′ r (atMap f s) p
-  steps-map s [] = refl
-  steps-map s (b ∷ p) = steps-map (step full put r s b) p ∙ ap (λ (t : At Y). steps full′ put′ r t p) (step-map s b)
+use Rattle.kangarootwelve.specs.Model.{Nodes, treeAt, countedTreeAt}
+use Rattle.kangarootwelve.proofs.Numbered.{atMap, steps-map, putAdded, leafAdded, endAdded, closeAdded, numberedPut, numberedEnd, numberTree, numberClose, numberFinish, numberFinalize}
 
 -- ---- the tree and the number
 
 abbrev treeOf : CountedTree → Tree
 treeOf t = record { final = spongeOf (t .final); leaf = spongeOf (t .leaf); index = t .index }
 
-abbrev pub both : CountedTree → Tree × ℕ
-both t = (treeOf t, permutationsOf t)
+abbrev pub treeAndCount : CountedTree → Tree × ℕ
+treeAndCount t = (treeOf t, permutationsOf t)
 
 -- a node's bytes and its padding
 module _ (rate : ℕ) where
@@ -55,13 +36,13 @@ module _ (rate : ℕ) where
   padded s d = pad-counted permuted xorByte rate (spongeOf s) (s .value .1) d
 
   both-put : (k : ℕ) (f l : Counted) (p : List ℕ)
-      → both (putToOf lanesCounted rate k f l p) ≡ (putTo rate k (spongeOf f) (spongeOf l) p, f .value .1 + l .value .1 + putAdded rate k (spongeOf f) (spongeOf l) (length p))
+      → treeAndCount (putToOf lanesCounted rate k f l p) ≡ (putTo rate k (spongeOf f) (spongeOf l) p, f .value .1 + l .value .1 + putAdded rate k (spongeOf f) (spongeOf l) (length p))
   both-put zero f l p =
       let n : f .value .1 + added rate (f .position) (length p) + l .value .1 ≡ f .value .1 + l .value .1 + added rate (f .position) (length p) = omega arith in
-      ap (λ (s : Counted). both (record { final = s; leaf = l; index = 0 })) (absorbed f p) ∙ ap (λ (m : ℕ). (putTo rate 0 (spongeOf f) (spongeOf l) p, m)) n
+      ap (λ (s : Counted). treeAndCount (record { final = s; leaf = l; index = 0 })) (absorbed f p) ∙ ap (λ (m : ℕ). (putTo rate 0 (spongeOf f) (spongeOf l) p, m)) n
   both-put (suc k) f l p =
       let n : f .value .1 + (l .value .1 + added rate (l .position) (length p)) ≡ f .value .1 + l .value .1 + added rate (l .position) (length p) = omega arith in
-      ap (λ (s : Counted). both (record { final = f; leaf = s; index = suc k })) (absorbed l p) ∙ ap (λ (m : ℕ). (putTo rate (suc k) (spongeOf f) (spongeOf l) p, m)) n
+      ap (λ (s : Counted). treeAndCount (record { final = f; leaf = s; index = suc k })) (absorbed l p) ∙ ap (λ (m : ℕ). (putTo rate (suc k) (spongeOf f) (spongeOf l) p, m)) n
 
 module _ (rate chaining : ℕ) where
   -- a chunk's end: the bytes that the final node gets, and what the leaf adds
@@ -79,21 +60,21 @@ module _ (rate chaining : ℕ) where
       ∙ ap (λ (j : ℕ). m + added rate j chaining) (pad-position permuted rate (spongeOf l) intermediateDomain)
       ∙ add-assoc (l .value .1) (padAdded rate (l .position)) (added rate 0 chaining)
 
-  both-end : (t : CountedTree) → both (endChunkOf lanesCounted rate chaining t) ≡ countedEnd rate chaining (both t)
+  both-end : (t : CountedTree) → treeAndCount (endChunkOf lanesCounted rate chaining t) ≡ numberedEnd rate chaining (treeAndCount t)
   both-end t =
       let f : Counted = t .final in
       let e : List ℕ = endingOf lanesCounted rate chaining (t .index) (t .leaf) in
       let m : ℕ = squeezedLeaf lanesCounted rate chaining (t .index) (t .leaf) .value .1 in
       let l : List ℕ = ending rate chaining (t .index) (spongeOf (t .leaf)) in
       let n : f .value .1 + added rate (f .position) (length l) + m ≡ permutationsOf t + endAdded rate chaining (t .index) (spongeOf f) (spongeOf (t .leaf)) = omega (arith, leaf-added (t .index) (t .leaf)) in
-      ap (λ (s : Counted). both (record { final = s; leaf = record { value = (zeroLanes, m); position = 0 }; index = suc (t .index) })) (absorbed rate f e)
+      ap (λ (s : Counted). treeAndCount (record { final = s; leaf = record { value = (zeroLanes, m); position = 0 }; index = suc (t .index) })) (absorbed rate f e)
       ∙ ap (λ (b : List ℕ). (record { final = absorbBytes permuted rate (spongeOf f) b; leaf = fresh; index = suc (t .index) }, f .value .1 + added rate (f .position) (length b) + m)) (ending-is (t .index) (t .leaf))
       ∙ ap (λ (k : ℕ). (endChunk rate chaining (treeOf t), k)) n
 
   -- along every byte of S
-  pub both-absorbed : (t : At CountedTree) (p : List ℕ) → atMap both (absorbTreeOf lanesCounted rate chaining t p) ≡ countTree rate chaining (atMap both t) p
+  pub both-absorbed : (t : At CountedTree) (p : List ℕ) → atMap treeAndCount (absorbTreeOf lanesCounted rate chaining t p) ≡ numberTree rate chaining (atMap treeAndCount t) p
   both-absorbed t p =
-      steps-map both (endChunkOf lanesCounted rate chaining) (putByteOf lanesCounted rate) (countedEnd rate chaining) (countedPut rate chaining)
+      steps-map treeAndCount (endChunkOf lanesCounted rate chaining) (putByteOf lanesCounted rate) (numberedEnd rate chaining) (numberedPut rate chaining)
       both-end (λ u i b. both-put rate (u .index) (u .final) (u .leaf) (b ∷ [])) chunk t p
 
   -- the close
@@ -112,14 +93,35 @@ module _ (rate chaining : ℕ) where
 
   -- ---- so for the numbers of the machine
 
-  pub absorbed-number : (t : At CountedTree) (p : List ℕ) → countAbsorbed rate chaining t p ≡ countTree rate chaining (atMap both t) p .value .1
+  pub absorbed-number : (t : At CountedTree) (p : List ℕ) → countAbsorbed rate chaining t p ≡ numberTree rate chaining (atMap treeAndCount t) p .value .1
   absorbed-number t p = ap (λ (u : At (Tree × ℕ)). u .value .1) (both-absorbed t p)
 
-  pub finished-number : (t : At CountedTree) (n : ℕ) → countFinished rate chaining t n ≡ countFinish rate chaining (atMap both t) n
+  pub finished-number : (t : At CountedTree) (n : ℕ) → countFinished rate chaining t n ≡ numberFinish rate chaining (atMap treeAndCount t) n
   finished-number t n =
       let u : CountedTree = absorbTreeOf lanesCounted rate chaining t (lengthEncode n) .value in
-      closed-number (u .index) (u .final) (u .leaf) ∙ ap (λ (x : At (Tree × ℕ)). countClose rate chaining (x .value)) (both-absorbed t (lengthEncode n))
+      closed-number (u .index) (u .final) (u .leaf) ∙ ap (λ (x : At (Tree × ℕ)). numberClose rate chaining (x .value)) (both-absorbed t (lengthEncode n))
 
-  pub finalized-number : (t : At CountedTree) (c : List ℕ) → countFinalized rate chaining t c ≡ countFinalize rate chaining (atMap both t) c
+  pub finalized-number : (t : At CountedTree) (c : List ℕ) → countFinalized rate chaining t c ≡ numberFinalize rate chaining (atMap treeAndCount t) c
   finalized-number t c =
-      finished-number (absorbTreeOf lanesCounted rate chaining t c) (length c) ∙ ap (λ (x : At (Tree × ℕ)). countFinish rate chaining x (length c)) (both-absorbed t c)
+      finished-number (absorbTreeOf lanesCounted rate chaining t c) (length c) ∙ ap (λ (x : At (Tree × ℕ)). numberFinish rate chaining x (length c)) (both-absorbed t c)
+
+-- ---- of a run, whose one number is the sum of the two
+
+abbrev pub numberAt : ℕ → Nodes → At (Tree × ℕ)
+numberAt n s = record { value = (treeAt n s .value, s .permutations); position = positionAfter chunk n }
+
+sum-is-number : (n : ℕ) (s : Nodes) → atMap treeAndCount (countedTreeAt n s) ≡ numberAt n s
+sum-is-number n s = ap (λ (m : ℕ). record { value = (treeAt n s .value, m); position = positionAfter chunk n }) (add-zero (s .permutations))
+
+module _ (rate chaining : ℕ) where
+  pub run-absorbed : (n : ℕ) (s : Nodes) (p : List ℕ) → countAbsorbed rate chaining (countedTreeAt n s) p ≡ numberTree rate chaining (numberAt n s) p .value .1
+  run-absorbed n s p = absorbed-number rate chaining (countedTreeAt n s) p ∙ ap (λ (t : At (Tree × ℕ)). numberTree rate chaining t p .value .1) (sum-is-number n s)
+
+  pub run-finished : (n : ℕ) (s : Nodes) (m : ℕ) → countFinished rate chaining (countedTreeAt n s) m ≡ numberFinish rate chaining (numberAt n s) m
+  run-finished n s m = finished-number rate chaining (countedTreeAt n s) m ∙ ap (λ (t : At (Tree × ℕ)). numberFinish rate chaining t m) (sum-is-number n s)
+
+  pub run-finalized : (n : ℕ) (s : Nodes) (c : List ℕ) → countFinalized rate chaining (countedTreeAt n s) c ≡ numberFinalize rate chaining (numberAt n s) c
+  run-finalized n s c = finalized-number rate chaining (countedTreeAt n s) c ∙ ap (λ (t : At (Tree × ℕ)). numberFinalize rate chaining t c) (sum-is-number n s)
+
+  pub run-squeezed : (k : ℕ) (s : Nodes) → afterBytes (counted permuted) rate k (countedFrom (s .final) (s .permutations)) .value .1 ≡ s .permutations + added rate (s .final .position) k
+  run-squeezed k s = ap (λ (t : Counted). t .value .1) (after-counted permuted rate k (s .final) (s .permutations))

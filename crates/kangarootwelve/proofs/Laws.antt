@@ -2,7 +2,7 @@
 -- Assumes nothing.
 use mathlib.Core.Path.{_≡_, refl, sym, ap, _∙_}
 use mathlib.Core.List.{List, [], _∷_, _++_}
-use Prim.Native.Nat.{ℕ, zero, suc, _+_, _*_, _≤_, _<_, zero-le}
+use Prim.Native.Nat.{ℕ, zero, suc, _+_, _≤_, _<_, zero-le}
 use native.Mathlib.Nat.{zero-add, add-zero, add-assoc}
 use native.Mathlib.Omega.{arith}
 use lib.ListN.{length, length-append}
@@ -12,7 +12,7 @@ use Rattle.sponge.specs.Waiting.{At, positionAfter}
 use Rattle.sponge.specs.Model.{fresh, squeezeBytes, afterBytes}
 use Rattle.sponge.specs.Count.{Counted, counted, countedFrom}
 use Rattle.sponge.specs.Transcript.{Call, Call.absorb, Call.customize, Call.finalize, Call.finish, Call.squeeze, Phase, Phase.absorbing, Phase.customizing, Phase.squeezing, statusOf}
-use Rattle.sponge.specs.Runs.{Run, worked, runOf}
+use Rattle.sponge.specs.Runs.{worked, runOf}
 use Rattle.sponge.proofs.Waiting.{steps-append}
 use Rattle.sponge.proofs.Position.{After, after-steps, after-position}
 use Rattle.sponge.proofs.Count.{after-counted, after-adds}
@@ -20,16 +20,15 @@ use Rattle.sponge.proofs.Published.{after-add, squeeze-add, length-squeeze}
 use Rattle.sponge.proofs.Streaming.{cond-zero, Fits, Customizes, Laws}
 use Rattle.sponge.proofs.Joining.{Stays}
 use Rattle.sponge.proofs.Reachable.{Shape}
-use Rattle.turboshake.specs.Transcript.{messageLimit, outputLimit}
+use Rattle.turboshake.specs.Transcript.{messageLimit}
 use Rattle.kangarootwelve.specs.Published.{chunk, lengthEncode, merged, kt}
 use Rattle.kangarootwelve.specs.Transcript.{customizationLimit, customizationStatus, rules}
 use Rattle.kangarootwelve.specs.Tree.{Tree, putByte, endChunk, absorbTree, closeTree, finishTree, finalizeTree}
 use Rattle.kangarootwelve.specs.Count.{countAbsorbed, countFinished, countFinalized, openKt, closedKt}
-use Rattle.kangarootwelve.specs.Model.{Nodes, nodesOf, treeAt, countAt, finalDue, leafDue, machine}
+use Rattle.kangarootwelve.specs.Model.{Nodes, nodesOf, treeAt, countedTreeAt, finalDue, leafDue, machine}
 use Rattle.kangarootwelve.proofs.Published.{chunk-pos, index-put, close-position, squeeze-kt}
-use Rattle.kangarootwelve.proofs.Count.{countedPut, countedEnd, countTree, countFinish, plain-tree, counted-tree, Told, counted-told, finish-told, squeezed-told}
-use Rattle.kangarootwelve.proofs.Counting as counting
-use Rattle.kangarootwelve.proofs.Counting.{numberAt}
+use Rattle.kangarootwelve.proofs.Numbered.{numberedPut, numberedEnd, numberTree, numberFinish, plain-tree, numbered-tree, Told, numbered-told, finish-told, squeezed-told}
+use Rattle.kangarootwelve.proofs.CountedTree.{numberAt, run-absorbed, run-finished, run-finalized, run-squeezed}
 pub use Rattle.kangarootwelve.proofs.Due.{positions, due, first-is, second-is, third-is, customization-taken, customization-long, count-due, shape, shaped}
 use Rattle.kangarootwelve.proofs.Due.{triple}
 
@@ -43,7 +42,7 @@ module _ (rate chaining : ℕ) where
   Index q o t = t .index ≡ q
 
   -- whatever the customization bytes m and the number k are
-  pub tree-told : (n : ℕ) (s : Nodes) (p : List ℕ) (m k : ℕ) → absorbTree rate chaining (treeAt n s) p ≡ treeAt (n + length p) (nodesOf (absorbTree rate chaining (treeAt n s) p .value) m k)
+  tree-told : (n : ℕ) (s : Nodes) (p : List ℕ) (m k : ℕ) → absorbTree rate chaining (treeAt n s) p ≡ treeAt (n + length p) (nodesOf (absorbTree rate chaining (treeAt n s) p .value) m k)
   tree-told n s p m k =
       let i : After chunk Index (n + length p) (absorbTree rate chaining (treeAt n s) p) =
       after-steps (endChunk rate chaining) (putByte rate) chunk chunk-pos Index
@@ -54,22 +53,22 @@ module _ (rate chaining : ℕ) where
       }
 
   -- and counted
-  count-tree-told : (n : ℕ) (s : Nodes) (p : List ℕ) (m : ℕ)
-      → countTree rate chaining (numberAt n s) p ≡ numberAt (n + length p) (nodesOf (absorbTree rate chaining (treeAt n s) p .value) m (countTree rate chaining (numberAt n s) p .value .1))
-  count-tree-told n s p m =
-      let k : ℕ = countTree rate chaining (numberAt n s) p .value .1 in
-      counted-tree rate chaining (numberAt n s) p ∙ ap (λ (t : At Tree). countedFrom t k) (tree-told n s p m k)
+  number-told : (n : ℕ) (s : Nodes) (p : List ℕ) (m : ℕ)
+      → numberTree rate chaining (numberAt n s) p ≡ numberAt (n + length p) (nodesOf (absorbTree rate chaining (treeAt n s) p .value) m (numberTree rate chaining (numberAt n s) p .value .1))
+  number-told n s p m =
+      let k : ℕ = numberTree rate chaining (numberAt n s) p .value .1 in
+      numbered-tree rate chaining (numberAt n s) p ∙ ap (λ (t : At Tree). countedFrom t k) (tree-told n s p m k)
 
   -- the number after p and then q
   count-joins : (n : ℕ) (s : Nodes) (p q : List ℕ) (m : ℕ)
-      → countAbsorbed rate chaining (countAt n s) (p ++ q)
-      ≡ countAbsorbed rate chaining (countAt (n + length p) (nodesOf (absorbTree rate chaining (treeAt n s) p .value) m (countAbsorbed rate chaining (countAt n s) p))) q
+      → countAbsorbed rate chaining (countedTreeAt n s) (p ++ q)
+      ≡ countAbsorbed rate chaining (countedTreeAt (n + length p) (nodesOf (absorbTree rate chaining (treeAt n s) p .value) m (countAbsorbed rate chaining (countedTreeAt n s) p))) q
   count-joins n s p q m =
       let u : ℕ → Nodes = λ k. nodesOf (absorbTree rate chaining (treeAt n s) p .value) m k in
-      counting.absorbed rate chaining n s (p ++ q)
-      ∙ ap (λ (t : At (Tree × ℕ)). t .value .1) (steps-append (countedEnd rate chaining) (countedPut rate chaining) chunk (numberAt n s) p q ∙ ap (λ (t : At (Tree × ℕ)). countTree rate chaining t q) (count-tree-told n s p m))
-      ∙ ap (λ (k : ℕ). countTree rate chaining (numberAt (n + length p) (u k)) q .value .1) (sym (counting.absorbed rate chaining n s p))
-      ∙ sym (counting.absorbed rate chaining (n + length p) (u (countAbsorbed rate chaining (countAt n s) p)) q)
+      run-absorbed rate chaining n s (p ++ q)
+      ∙ ap (λ (t : At (Tree × ℕ)). t .value .1) (steps-append (numberedEnd rate chaining) (numberedPut rate chaining) chunk (numberAt n s) p q ∙ ap (λ (t : At (Tree × ℕ)). numberTree rate chaining t q) (number-told n s p m))
+      ∙ ap (λ (k : ℕ). numberTree rate chaining (numberAt (n + length p) (u k)) q .value .1) (sym (run-absorbed rate chaining n s p))
+      ∙ sym (run-absorbed rate chaining (n + length p) (u (countAbsorbed rate chaining (countedTreeAt n s) p)) q)
 
   module _ (pos : 0 < rate) where
     -- ---- what is squeezed is the published output
@@ -79,7 +78,7 @@ module _ (rate chaining : ℕ) where
     unfolding merged machine
     kt-output f c n =
         let s : Nodes = freshNodes in
-        let k : ℕ = countAbsorbed rate chaining (countAt 0 s) f in
+        let k : ℕ = countAbsorbed rate chaining (countedTreeAt 0 s) f in
         let whole : absorbTree rate chaining (treeAt 0 s) (f ++ c ++ lengthEncode (length c))
         ≡ absorbTree rate chaining (absorbTree rate chaining (treeAt (length f) (nodesOf (absorbTree rate chaining (treeAt 0 s) f .value) 0 k)) c) (lengthEncode (length c)) =
         rw (
@@ -105,27 +104,27 @@ module _ (rate chaining : ℕ) where
     told-at n s e = record { position-is = refl; holds = record { places = record { index-is = refl; final-is = first-is e; leaf-is = second-is e }; count-is = third-is e } }
 
     pub absorb-due : (n : ℕ) (s : Nodes) (p : List ℕ) (m : ℕ) → Opened n s
-        → Opened (n + length p) (nodesOf (absorbTree rate chaining (treeAt n s) p .value) m (countAbsorbed rate chaining (countAt n s) p))
+        → Opened (n + length p) (nodesOf (absorbTree rate chaining (treeAt n s) p .value) m (countAbsorbed rate chaining (countedTreeAt n s) p))
     unfolding openKt
     absorb-due n s p m e =
-        let h = counted-told rate chaining pos n (numberAt n s) p (told-at n s e) .holds in
+        let h = numbered-told rate chaining pos n (numberAt n s) p (told-at n s e) .holds in
         let w = sym (plain-tree rate chaining (numberAt n s) p) in
-        triple (ap (λ (t : At Tree). t .value .final .position) w ∙ h .places .final-is) (ap (λ (t : At Tree). t .value .leaf .position) w ∙ h .places .leaf-is) (counting.absorbed rate chaining n s p ∙ h .count-is)
+        triple (ap (λ (t : At Tree). t .value .final .position) w ∙ h .places .final-is) (ap (λ (t : At Tree). t .value .leaf .position) w ∙ h .places .leaf-is) (run-absorbed rate chaining n s p ∙ h .count-is)
 
     finish-position : (t : At Tree) (n : ℕ) → finishTree rate chaining t n .position ≡ 0
     finish-position t n =
         let u : Tree = absorbTree rate chaining t (lengthEncode n) .value in
         close-position rate chaining (u .index) (u .final) (u .leaf)
 
-    finish-due : (n : ℕ) (s : Nodes) (m : ℕ) → Opened n s → countFinished rate chaining (countAt n s) m ≡ closedKt rate chaining n m 0
-    finish-due n s m e = counting.finished rate chaining n s m ∙ finish-told rate chaining pos n m (numberAt n s) (told-at n s e)
+    finish-due : (n : ℕ) (s : Nodes) (m : ℕ) → Opened n s → countFinished rate chaining (countedTreeAt n s) m ≡ closedKt rate chaining n m 0
+    finish-due n s m e = run-finished rate chaining n s m ∙ finish-told rate chaining pos n m (numberAt n s) (told-at n s e)
 
-    finalize-due : (n : ℕ) (s : Nodes) (c : List ℕ) → Opened n s → countFinalized rate chaining (countAt n s) c ≡ closedKt rate chaining (n + length c) (length c) 0
-    finalize-due n s c e = counting.finalized rate chaining n s c ∙ finish-told rate chaining pos (n + length c) (length c) (countTree rate chaining (numberAt n s) c) (counted-told rate chaining pos n (numberAt n s) c (told-at n s e))
+    finalize-due : (n : ℕ) (s : Nodes) (c : List ℕ) → Opened n s → countFinalized rate chaining (countedTreeAt n s) c ≡ closedKt rate chaining (n + length c) (length c) 0
+    finalize-due n s c e = run-finalized rate chaining n s c ∙ finish-told rate chaining pos (n + length c) (length c) (numberTree rate chaining (numberAt n s) c) (numbered-told rate chaining pos n (numberAt n s) c (told-at n s e))
 
     after-due : (n m j k : ℕ) (s : Nodes) → s .final .position ≡ positionAfter rate j → s .permutations ≡ closedKt rate chaining n m j
         → afterBytes (counted permuted) rate k (countedFrom (s .final) (s .permutations)) .value .1 ≡ closedKt rate chaining n m (j + k)
-    after-due n m j k s e f = counting.squeezed rate chaining k s ∙ rw (e, f) (squeezed-told rate chaining pos n m j k)
+    after-due n m j k s e f = run-squeezed rate chaining k s ∙ rw (e, f) (squeezed-told rate chaining pos n m j k)
 
     -- ---- the machine's laws
 
@@ -169,7 +168,7 @@ module _ (rate chaining : ℕ) where
     absorb-joins : (n : ℕ) (s : Nodes) (p q : List ℕ) → machine rate chaining .absorb n s (p ++ q) ≡ machine rate chaining .absorb (n + length p) (machine rate chaining .absorb n s p) q
     unfolding machine
     absorb-joins n s p q =
-        let k : ℕ = countAbsorbed rate chaining (countAt n s) p in
+        let k : ℕ = countAbsorbed rate chaining (countedTreeAt n s) p in
         let tree = steps-append (endChunk rate chaining) (putByte rate) chunk (treeAt n s) p q ∙ ap (λ (t : At Tree). absorbTree rate chaining t q) (tree-told n s p (s .customized) k) in
         λ i. nodesOf (tree i .value) (s .customized) (count-joins n s p q (s .customized) i)
 
@@ -177,14 +176,14 @@ module _ (rate chaining : ℕ) where
     unfolding machine
     customize-joins n s p q =
         let m : ℕ = s .customized in
-        let k : ℕ = countAbsorbed rate chaining (countAt (n + m) s) p in
+        let k : ℕ = countAbsorbed rate chaining (countedTreeAt (n + m) s) p in
         let u : Nodes = nodesOf (absorbTree rate chaining (treeAt (n + m) s) p .value) (m + length p) k in
         let tree : absorbTree rate chaining (treeAt (n + m) s) (p ++ q) ≡ absorbTree rate chaining (treeAt (n + (m + length p)) u) q =
         steps-append (endChunk rate chaining) (putByte rate) chunk (treeAt (n + m) s) p q
         ∙ ap (λ (t : At Tree). absorbTree rate chaining t q) (tree-told (n + m) s p (m + length p) k)
         ∙ ap (λ (j : ℕ). absorbTree rate chaining (treeAt j u) q) (add-assoc n m (length p)) in
-        let counts : countAbsorbed rate chaining (countAt (n + m) s) (p ++ q) ≡ countAbsorbed rate chaining (countAt (n + (m + length p)) u) q =
-        count-joins (n + m) s p q (m + length p) ∙ ap (λ (j : ℕ). countAbsorbed rate chaining (countAt j u) q) (add-assoc n m (length p)) in
+        let counts : countAbsorbed rate chaining (countedTreeAt (n + m) s) (p ++ q) ≡ countAbsorbed rate chaining (countedTreeAt (n + (m + length p)) u) q =
+        count-joins (n + m) s p q (m + length p) ∙ ap (λ (j : ℕ). countAbsorbed rate chaining (countedTreeAt j u) q) (add-assoc n m (length p)) in
         let total : m + length (p ++ q) ≡ m + length p + length q = rw (length-append p q) (sym (add-assoc m (length p) (length q))) in
         λ i. nodesOf (tree i .value) (total i) (counts i)
 
@@ -193,13 +192,13 @@ module _ (rate chaining : ℕ) where
     unfolding machine
     finish-finalizes n s c z =
         let u : ℕ → Nodes = λ j. nodesOf (absorbTree rate chaining (treeAt n s) c .value) (length c) j in
-        let k : ℕ = countAbsorbed rate chaining (countAt n s) c in
+        let k : ℕ = countAbsorbed rate chaining (countedTreeAt n s) c in
         let tree = sym (tree-told n s c (length c) k) in
-        let count : countFinished rate chaining (countAt (n + length c) (u k)) (length c) ≡ countFinalized rate chaining (countAt n s) c =
-        counting.finished rate chaining (n + length c) (u k) (length c)
-        ∙ ap (λ (j : ℕ). countFinish rate chaining (numberAt (n + length c) (u j)) (length c)) (counting.absorbed rate chaining n s c)
-        ∙ ap (λ (t : At (Tree × ℕ)). countFinish rate chaining t (length c)) (sym (count-tree-told n s c (length c)))
-        ∙ sym (counting.finalized rate chaining n s c) in
+        let count : countFinished rate chaining (countedTreeAt (n + length c) (u k)) (length c) ≡ countFinalized rate chaining (countedTreeAt n s) c =
+        run-finished rate chaining (n + length c) (u k) (length c)
+        ∙ ap (λ (j : ℕ). numberFinish rate chaining (numberAt (n + length c) (u j)) (length c)) (run-absorbed rate chaining n s c)
+        ∙ ap (λ (t : At (Tree × ℕ)). numberFinish rate chaining t (length c)) (sym (number-told n s c (length c)))
+        ∙ sym (run-finalized rate chaining n s c) in
         rw (z, zero-add (length c), add-zero n)
         (λ i. record { final = finishTree rate chaining (tree i) (length c); leaf = fresh; customized = length c; permutations = count i })
 
@@ -218,7 +217,7 @@ module _ (rate chaining : ℕ) where
     after-joins m n s =
         let t : Counted = countedFrom (s .final) (s .permutations) in
         let kept : afterBytes (counted permuted) rate m t ≡ countedFrom (afterBytes permuted rate m (s .final)) (afterBytes (counted permuted) rate m t .value .1) =
-        after-counted permuted rate m (s .final) (s .permutations) ∙ ap (countedFrom (afterBytes permuted rate m (s .final))) (sym (counting.squeezed rate chaining m s)) in
+        after-counted permuted rate m (s .final) (s .permutations) ∙ ap (countedFrom (afterBytes permuted rate m (s .final))) (sym (run-squeezed rate chaining m s)) in
         let count = ap (λ (u : Counted). u .value .1) (after-adds (counted permuted) rate m n t ∙ ap (afterBytes (counted permuted) rate n) kept) in
         let bytes = after-add permuted rate pos m n (s .final) in
         λ i. record { final = bytes i; leaf = s .leaf; customized = s .customized; permutations = count i }

@@ -1,10 +1,9 @@
 -- Laws of KT and HopMAC. Crates above use `Laws` (what KT's machine owes), `Streaming` (the list theorem and what follows from it), `Answers`
--- and `Pieces` (what a call does, and calls in a row), `Encoding`, `Merged` and `Tags` (what the tag check's answer says); the rest serves
+-- and `Pieces` (what a call does, and calls in a row), `Encoding`, `Merged`, `Tags` (what the tag check's answer says) and `Claims`; the rest serves
 -- the functions' own proofs.
 pub mod Published
-pub mod Count
+mod Numbered
 mod CountedTree
-mod Counting
 mod Due
 pub mod Laws
 pub mod Streaming

@@ -22,9 +22,9 @@ use Rattle.kangarootwelve.specs.declared.Progress.{Progress}
 use Rattle.kangarootwelve.proofs.Published.{chunk-is, chunk-pos}
 use Rattle.kangarootwelve.proofs.Nodes.{position-le}
 
-pub open-is : (rate n : ℕ) → (n ≡ 0 → ⊥) → ((n - 1) / rate ≡ openCount rate n) × ((n - 1) / rate ≤ n)
-open-is rate zero h = absurd (h refl)
-open-is rate (suc n) h =
+pub open-count-is : (rate n : ℕ) → (n ≡ 0 → ⊥) → ((n - 1) / rate ≡ openCount rate n) × ((n - 1) / rate ≤ n)
+open-count-is rate zero h = absurd (h refl)
+open-count-is rate (suc n) h =
     let e : suc n - 1 ≡ n = omega arith in
     (rw e, rw e (let l = div-le-self n rate in omega arith))
 
@@ -85,7 +85,7 @@ module _ (rate chaining : ℕ) (pos : 0 < rate) (p : Progress) (from : Place) wh
       let b = and-eq-true-iff (eqb (p .leaf) (leafDue rate bytes)) (eqb (p .permutations) (openKt rate chaining bytes)) .0 (a .1) in
       (eqb-true _ _ (a .0), eqb-true _ _ (b .0), eqb-true _ _ (b .1))
 
-  -- the node in hand is where the chunk's bytes lead
+  -- the position due in the node that the chunk in hand goes into
   in-hand-is : openDue rate chaining p ≡ true → from ≡ placeOf p → InHand ≡ positionAfter rate (positionAfter chunk bytes)
   in-hand-is e f =
       let w = parts e in

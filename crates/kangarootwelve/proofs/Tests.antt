@@ -87,10 +87,6 @@ module _ (rate chaining f l h n m k : ℕ) where
           unfolding placed
           closed-node g = rw (le-leb n messageLimit a, ← t-is, le-leb m t b, eq-eqb h 1 c, le-leb k outputLimit e, ← d-is, ne-eqb f d g)
 
-          pub closed-leaf : f ≡ d → (l ≡ 0 → ⊥) → false ≡ placed rate chaining f l h n m k
-          unfolding placed
-          closed-leaf g z = rw (le-leb n messageLimit a, ← t-is, le-leb m t b, eq-eqb h 1 c, le-leb k outputLimit e, ← d-is, eq-eqb f d g, ne-eqb l 0 z)
-
       module _ (c : h ≡ 1 → ⊥) where
         pub no-phase : 2 < h → false ≡ placed rate chaining f l h n m k
         unfolding placed
@@ -144,13 +140,27 @@ module _ (rate chaining : ℕ) (p : Progress) where
       by true y w = refl
       by false y w = refl
 
-  pub closed-due : p .phase ≡ 1 → p .absorbed ≤ messageLimit → p .customized ≤ customizationLimit → p .squeezed ≤ outputLimit
-      → (d : ℕ) → d ≡ positionAfter rate (p .squeezed) → p .node ≡ d → p .leaf ≡ 0 → (w : ℕ) → w ≡ closedKt rate chaining (p .absorbed + p .customized) (p .customized) (p .squeezed)
-      → eqb (p .permutations) w ≡ cond (eqb (p .phase) 1) (reachedAt rate chaining p) false
-  unfolding placed reachable
-  closed-due c a m k d d-is f l w w-is =
-      let z : (p .phase ≡ 0 → ⊥) = λ e. omega (arith, c, e) in
-      rw (eq-eqb (p .phase) 1 c, ne-eqb (p .phase) 0 z, le-leb (p .absorbed) messageLimit a, le-leb (p .customized) customizationLimit m, le-leb (p .squeezed) outputLimit k, ← d-is, eq-eqb (p .node) d f, eq-eqb (p .leaf) 0 l, w-is)
+  -- what is left of a closed run's test when its phase, totals and final position fit
+  module _ (c : p .phase ≡ 1) (a : p .absorbed ≤ messageLimit) (m : p .customized ≤ customizationLimit) (k : p .squeezed ≤ outputLimit) (d : ℕ) (d-is : d ≡ positionAfter rate (p .squeezed))
+      (f : p .node ≡ d) (w : ℕ) (w-is : w ≡ closedKt rate chaining (p .absorbed + p .customized) (p .customized) (p .squeezed)) where
+    left : cond (eqb (p .phase) 1) (reachedAt rate chaining p) false ≡ (eqb (p .leaf) 0 && eqb (p .permutations) w)
+    unfolding placed reachable
+    left =
+        rw (eq-eqb (p .phase) 1 c, ne-eqb (p .phase) 0 (λ e. omega (arith, c, e)), le-leb (p .absorbed) messageLimit a, le-leb (p .customized) customizationLimit m, le-leb (p .squeezed) outputLimit k, ← d-is, eq-eqb (p .node) d f, w-is)
+
+    pub closed-count : (p .permutations ≡ w → ⊥) → false ≡ cond (eqb (p .phase) 1) (reachedAt rate chaining p) false
+    closed-count h = by (eqb (p .leaf) 0) ∙ sym (left ∙ rw (ne-eqb (p .permutations) w h))
+      where
+        by : (b : Bool) → false ≡ (b && false)
+        by true = refl
+        by false = refl
+
+    pub closed-leaf : p .permutations ≡ w → eqb (p .leaf) 0 ≡ cond (eqb (p .phase) 1) (reachedAt rate chaining p) false
+    closed-leaf h = by (eqb (p .leaf) 0) ∙ sym (left ∙ rw (eq-eqb (p .permutations) w h))
+      where
+        by : (b : Bool) → b ≡ (b && true)
+        by true = refl
+        by false = refl
 
 -- a closed run's most customization bytes
 pub closed-most : (h : ℕ) → h ≡ 1 → customizationLimit ≡ cond (eqb h 0) 0 customizationLimit

@@ -1,29 +1,28 @@
 -- What is claimed of the permutations of runs as the code holds them (request Q-10), and of status 5, which looks at them: of lists of calls from
--- `freshOf`. proofs/Claims.antt fills `Counts` and `Five`.
+-- `freshOf`. proofs/Claims.antt fills `Strengths`.
 -- Assumes nothing.
 use mathlib.Core.Path.{_≡_}
-use mathlib.Core.List.{List, [], _∷_, _++_}
-use Prim.Native.Nat.{ℕ, suc, _+_, _*_}
+use mathlib.Core.List.{List, _++_}
+use Prim.Native.Nat.{ℕ, _+_}
 use lib.ListN.{length}
 use Rattle.keccak.specs.Permutation.{permuted}
 use Rattle.sponge.specs.Status.{unreachable}
 use Rattle.sponge.specs.Callable.{All}
-use Rattle.sponge.specs.Cut.{ceil}
-use Rattle.sponge.specs.Waiting.{At}
+use Rattle.sponge.specs.Waiting.{At, positionAfter, indexAfter}
 use Rattle.sponge.specs.Model.{afterBytes}
-use Rattle.sponge.specs.Count.{counted, freshCounted, readCount}
+use Rattle.sponge.specs.Count.{counted, freshCounted}
 use Rattle.sponge.specs.Transcript.{Call, Phase, Phase.absorbing, Phase.customizing, Phase.squeezing, phaseNumber, Transcript, freshTranscript, transcribe}
 use Rattle.sponge.specs.Streaming.{History, history}
-use Rattle.kangarootwelve.specs.Published.{chunk}
+use Rattle.kangarootwelve.specs.Published.{lengthEncode, chunk}
 use Rattle.kangarootwelve.specs.Transcript.{customizedOf, Callable, rules}
 use Rattle.kangarootwelve.specs.Tree.{absorbTreeOf, finalizedOf}
-use Rattle.kangarootwelve.specs.Count.{lanesCounted, CountedTree, permutationsOf, nodeLength, closedTree, countDue}
+use Rattle.kangarootwelve.specs.Count.{lanesCounted, CountedTree, permutationsOf, treeWords, closedWords, countDue}
 use Rattle.kangarootwelve.specs.Model.{freshOf, answerOf, replyOf}
 use Rattle.kangarootwelve.specs.declared.Run.{Run}
 
 -- the counted tree before its first byte; and with n bytes of output squeezed
-abbrev pub freshCount : At CountedTree
-freshCount = record { value = record { final = freshCounted; leaf = freshCounted; index = 0 }; position = 0 }
+abbrev pub freshCountedTree : At CountedTree
+freshCountedTree = record { value = record { final = freshCounted; leaf = freshCounted; index = 0 }; position = 0 }
 
 abbrev pub squeezedTree : ℕ → ℕ → CountedTree → CountedTree
 squeezedTree rate n t = record { final = afterBytes (counted permuted) rate n (t .final); leaf = t .leaf; index = t .index }
@@ -40,28 +39,34 @@ module _ (rate chaining : ℕ) where
   -- ---- the permutations
 
   -- those of the definition for the bytes of a transcript: f is M so far, n bytes are squeezed
-  abbrev pub definedAt : List ℕ → Phase (List ℕ) → ℕ → ℕ
-  definedAt f absorbing n = permutationsOf (absorbTreeOf lanesCounted rate chaining freshCount f .value)
-  definedAt f (customizing c) n = permutationsOf (absorbTreeOf lanesCounted rate chaining freshCount (f ++ c) .value)
-  definedAt f (squeezing c) n = permutationsOf (squeezedTree rate n (finalizedOf lanesCounted rate chaining (absorbTreeOf lanesCounted rate chaining freshCount f) c))
+  abbrev pub definedCountAt : List ℕ → Phase (List ℕ) → ℕ → ℕ
+  definedCountAt f absorbing n = permutationsOf (absorbTreeOf lanesCounted rate chaining freshCountedTree f .value)
+  definedCountAt f (customizing c) n = permutationsOf (absorbTreeOf lanesCounted rate chaining freshCountedTree (f ++ c) .value)
+  definedCountAt f (squeezing c) n = permutationsOf (squeezedTree rate n (finalizedOf lanesCounted rate chaining (absorbTreeOf lanesCounted rate chaining freshCountedTree f) c))
 
-  abbrev pub defined : Transcript (List ℕ) → ℕ
-  defined t = definedAt (t .absorbed) (t .phase) (t .squeezed)
+  abbrev pub definedCount : Transcript (List ℕ) → ℕ
+  definedCount t = definedCountAt (t .absorbed) (t .phase) (t .squeezed)
 
   -- those that the totals tell
-  abbrev pub due : Transcript (List ℕ) → ℕ
-  due t = countDue rate chaining (phaseNumber (t .phase)) (length (t .absorbed) + customizedOf (t .phase)) (customizedOf (t .phase)) (t .squeezed)
+  abbrev pub toldCount : Transcript (List ℕ) → ℕ
+  toldCount t = countDue rate chaining (phaseNumber (t .phase)) (length (t .absorbed) + customizedOf (t .phase)) (customizedOf (t .phase)) (t .squeezed)
+
+  -- the bytes of M and C, and of S
+  abbrev pub fed : Transcript (List ℕ) → ℕ
+  fed t = length (t .absorbed) + customizedOf (t .phase)
+
+  abbrev pub whole : Transcript (List ℕ) → ℕ
+  whole t = fed t + length (lengthEncode (customizedOf (t .phase)))
 
   pub record Counts : Type 0 where
     -- after every list of calls, refused ones included, the run has the definition's for the book, and these are what the totals tell
-    pub definition : (cs : List (Call (List ℕ))) → ran cs .left .permutations ≡ defined (told cs .left)
-    pub totals : (cs : List (Call (List ℕ))) → ran cs .left .permutations ≡ due (told cs .left)
-    -- in the request's words, once closed with o bytes in the last chunk and j squeezed: each node has TurboSHAKE's for its bytes. One chunk is one
-    -- node; of more, there are the final node, k full leaves and the last one
-    pub one-chunk : (o j : ℕ) → closedTree rate chaining 0 o j ≡ ceil rate (o + 1) + readCount rate j
-    pub more-chunks : (k o j : ℕ)
-        → closedTree rate chaining (suc k) o j
-        ≡ ceil rate (nodeLength rate chaining (suc k) + 1) + readCount rate j + k * (ceil rate (chunk + 1) + readCount rate chaining) + (ceil rate (o + 1) + readCount rate chaining)
+    pub definition : (cs : List (Call (List ℕ))) → ran cs .left .permutations ≡ definedCount (told cs .left)
+    pub totals : (cs : List (Call (List ℕ))) → ran cs .left .permutations ≡ toldCount (told cs .left)
+    -- and, in the request's words, of the bytes of M and C in an open run, and of all of S in a closed one
+    pub while-open : (cs : List (Call (List ℕ))) → (ran cs .left .phase ≡ 1 → ⊥)
+        → ran cs .left .permutations ≡ treeWords rate chaining (indexAfter chunk (fed (told cs .left))) (positionAfter chunk (fed (told cs .left)))
+    pub once-closed : (cs : List (Call (List ℕ))) → ran cs .left .phase ≡ 1
+        → ran cs .left .permutations ≡ closedWords rate chaining (indexAfter chunk (whole (told cs .left))) (positionAfter chunk (whole (told cs .left))) (told cs .left .squeezed)
 
   -- ---- status 5
 
@@ -82,3 +87,10 @@ module _ (rate chaining : ℕ) where
     pub five-unreached : (r : Run) (c : Call (List ℕ)) → answerOf rate chaining r c .status ≡ unreachable → Reached r → ⊥
     pub unreached-five : (r : Run) (c : Call (List ℕ)) → (Reached r → ⊥) → answerOf rate chaining r c .status ≡ unreachable
     pub other-reached : (r : Run) (c : Call (List ℕ)) → (answerOf rate chaining r c .status ≡ unreachable → ⊥) → Reached r
+
+-- of both strengths
+pub record Strengths : Type 0 where
+  pub counts128 : Counts 168 32
+  pub counts256 : Counts 136 64
+  pub five128 : Five 168 32
+  pub five256 : Five 136 64

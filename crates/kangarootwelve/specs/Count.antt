@@ -9,14 +9,15 @@ use lib.Dec.{eqb}
 use Rattle.keccak.specs.Permutation.{permuted}
 use Rattle.sponge.specs.Published.{xorByte, zeroLanes}
 use Rattle.sponge.specs.Waiting.{At, positionAfter, indexAfter}
-use Rattle.sponge.specs.Count.{counted, uncounted, openCount, closedCount}
+use Rattle.sponge.specs.Cut.{ceil}
+use Rattle.sponge.specs.Count.{counted, uncounted, openCount, closedCount, readCount}
 use Rattle.kangarootwelve.specs.Published.{lengthEncode, chunk}
-use Rattle.kangarootwelve.specs.Tree.{Held, TreeOf, absorbTreeOf, finishedOf, finalizedOf}
+use Rattle.kangarootwelve.specs.Tree.{Contents, TreeOf, absorbTreeOf, finishedOf, finalizedOf}
 
 -- ---- what is counted is the definition: the tree whose nodes count their permutations. A new leaf goes on with the count of those before it
 
-abbrev pub lanesCounted : Held (List ℕ × ℕ)
-lanesCounted = record { permute = counted permuted; put = uncounted xorByte; lanes = λ x. x .0; renew = λ x. (zeroLanes, x .1) }
+abbrev pub lanesCounted : Contents (List ℕ × ℕ)
+lanesCounted = record { permute = counted permuted; put = uncounted xorByte; lanes = λ x. x .0; nextLeaf = λ x. (zeroLanes, x .1) }
 
 abbrev pub CountedTree : Type 0
 CountedTree = TreeOf (List ℕ × ℕ)
@@ -49,6 +50,18 @@ module _ (rate chaining : ℕ) where
   abbrev pub closedTree : ℕ → ℕ → ℕ → ℕ
   closedTree zero o j = closedCount rate o j
   closedTree (suc k) o j = closedCount rate (nodeLength (suc k)) j + k * closedCount rate chunk chaining + closedCount rate o chaining
+
+  -- the same in the request's words, each node by TurboSHAKE's: of m bytes, closed, with n squeezed
+  abbrev pub nodeWords : ℕ → ℕ → ℕ
+  nodeWords m n = ceil rate (m + 1) + readCount rate n
+
+  abbrev pub treeWords : ℕ → ℕ → ℕ
+  treeWords zero o = readCount rate o
+  treeWords (suc k) o = readCount rate (chunk + 8 + k * chaining) + k * nodeWords chunk chaining + readCount rate o
+
+  abbrev pub closedWords : ℕ → ℕ → ℕ → ℕ
+  closedWords zero o j = nodeWords o j
+  closedWords (suc k) o j = nodeWords (nodeLength (suc k)) j + k * nodeWords chunk chaining + nodeWords o chaining
 
   -- of a run: n bytes of M and C, c of them C's; in phases 0 and 2, and in phase 1 with j squeezed
   unfoldable pub openKt : ℕ → ℕ

@@ -6,4 +6,4 @@ pub mod Model
 pub mod Inside
 pub mod Mac
 pub mod Claims
-pub mod Examples
+pub mod CountExamples

@@ -40,8 +40,8 @@ abbrev pub treeAt : ℕ → Nodes → At Tree
 treeAt n s = record { value = record { final = s .final; leaf = s .leaf; index = indexAfter chunk n }; position = positionAfter chunk n }
 
 -- the same, counted: of both nodes' permutations the sum alone is told, so the final node has them all
-abbrev pub countAt : ℕ → Nodes → At CountedTree
-countAt n s = record {
+abbrev pub countedTreeAt : ℕ → Nodes → At CountedTree
+countedTreeAt n s = record {
   value = record { final = countedFrom (s .final) (s .permutations); leaf = countedFrom (s .leaf) 0; index = indexAfter chunk n };
   position = positionAfter chunk n;
 }
@@ -83,14 +83,14 @@ reachable rate chaining finalPosition leafPosition phase absorbed customized squ
 unfoldable pub machine : ℕ → ℕ → Machine Nodes (List ℕ)
 machine rate chaining = record {
   fresh = record { final = fresh; leaf = fresh; customized = 0; permutations = 0 };
-  absorb = λ n s p. nodesOf (absorbTree rate chaining (treeAt n s) p .value) (s .customized) (countAbsorbed rate chaining (countAt n s) p);
-  customize = λ n s p. nodesOf (absorbTree rate chaining (treeAt (n + s .customized) s) p .value) (s .customized + length p) (countAbsorbed rate chaining (countAt (n + s .customized) s) p);
-  finalize = λ n s c. record { final = finalizeTree rate chaining (treeAt n s) c; leaf = fresh; customized = length c; permutations = countFinalized rate chaining (countAt n s) c };
+  absorb = λ n s p. nodesOf (absorbTree rate chaining (treeAt n s) p .value) (s .customized) (countAbsorbed rate chaining (countedTreeAt n s) p);
+  customize = λ n s p. nodesOf (absorbTree rate chaining (treeAt (n + s .customized) s) p .value) (s .customized + length p) (countAbsorbed rate chaining (countedTreeAt (n + s .customized) s) p);
+  finalize = λ n s c. record { final = finalizeTree rate chaining (treeAt n s) c; leaf = fresh; customized = length c; permutations = countFinalized rate chaining (countedTreeAt n s) c };
   finish = λ n s. record {
     final = finishTree rate chaining (treeAt (n + s .customized) s) (s .customized);
     leaf = fresh;
     customized = s .customized;
-    permutations = countFinished rate chaining (countAt (n + s .customized) s) (s .customized);
+    permutations = countFinished rate chaining (countedTreeAt (n + s .customized) s) (s .customized);
   };
   squeeze = λ k s. squeezeBytes permuted rate k (s .final);
   after = λ k s. record {

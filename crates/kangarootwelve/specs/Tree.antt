@@ -12,11 +12,11 @@ use Rattle.kangarootwelve.specs.Published.{lengthEncode, chunk, marker, 
 
 -- what the nodes hold, their lanes or their lanes with a count beside them: its permutation, a byte put into it, its lanes, and what a new leaf
 -- holds in place of the one before it
-pub record Held (X : Type 0) : Type 0 where
+pub record Contents (X : Type 0) : Type 0 where
   pub permute : X → X
   pub put : X → ℕ → ℕ → X
   pub lanes : X → List ℕ
-  pub renew : X → X
+  pub nextLeaf : X → X
 
 -- the two nodes, and the number of the chunk in hand
 pub record TreeOf (X : Type 0) : Type 0 where
@@ -24,7 +24,7 @@ pub record TreeOf (X : Type 0) : Type 0 where
   pub leaf : At X
   pub index : ℕ
 
-module _ {X : Type 0} (H : Held X) (rate : ℕ) where
+module _ {X : Type 0} (H : Contents X) (rate : ℕ) where
   abbrev pub absorbNode : At X → List ℕ → At X
   absorbNode = steps (H .permute) (H .put) rate
 
@@ -39,7 +39,7 @@ module _ {X : Type 0} (H : Held X) (rate : ℕ) where
   abbrev pub putByteOf : TreeOf X → ℕ → ℕ → TreeOf X
   putByteOf t i b = putToOf (t .index) (t .final) (t .leaf) (b ∷ [])
 
-module _ {X : Type 0} (H : Held X) (rate chaining : ℕ) where
+module _ {X : Type 0} (H : Contents X) (rate chaining : ℕ) where
   -- what the final node gets when the chunk in hand is full and another follows: the marker, or the leaf's chaining value
   abbrev pub endingOf : ℕ → At X → List ℕ
   endingOf zero leaf = marker
@@ -52,7 +52,7 @@ module _ {X : Type 0} (H : Held X) (rate chaining : ℕ) where
   squeezedLeaf (suc k) leaf = afterBytes (H .permute) rate chaining (padNode H rate leaf intermediateDomain)
 
   abbrev pub newLeaf : ℕ → At X → At X
-  newLeaf k leaf = record { value = H .renew (squeezedLeaf k leaf .value); position = 0 }
+  newLeaf k leaf = record { value = H .nextLeaf (squeezedLeaf k leaf .value); position = 0 }
 
   abbrev pub endChunkOf : TreeOf X → TreeOf X
   endChunkOf t = record { final = absorbNode H rate (t .final) (endingOf (t .index) (t .leaf)); leaf = newLeaf (t .index) (t .leaf); index = suc (t .index) }
@@ -78,8 +78,8 @@ module _ {X : Type 0} (H : Held X) (rate chaining : ℕ) where
 
 -- ---- over the lanes alone, which the code works on
 
-abbrev pub lanesAlone : Held (List ℕ)
-lanesAlone = record { permute = permuted; put = xorByte; lanes = λ a. a; renew = λ a. zeroLanes }
+abbrev pub lanesAlone : Contents (List ℕ)
+lanesAlone = record { permute = permuted; put = xorByte; lanes = λ a. a; nextLeaf = λ a. zeroLanes }
 
 abbrev pub Tree : Type 0
 Tree = TreeOf (List ℕ)

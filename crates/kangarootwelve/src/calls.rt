@@ -11,11 +11,14 @@ ghost use Rattle.kangarootwelve.specs.Transcript.{customizationLimit};
 ghost use Rattle.kangarootwelve.specs.Count.{openKt, closedKt};
 ghost use Rattle.kangarootwelve.specs.Model.{freshOf, answerOf, outputOf};
 ghost use Rattle.kangarootwelve.specs.Inside.{progressOf, placeOf, openDue, runWith, answered};
+use crate::ABSORBING;
 use crate::CUSTOMIZATION_LIMIT;
+use crate::CUSTOMIZING;
 use crate::Moved;
 use crate::Place;
 use crate::Progress;
 use crate::Run;
+use crate::SQUEEZING;
 use crate::State;
 use crate::reached;
 use crate::totals;
@@ -23,12 +26,6 @@ use crate::tree;
 use sponge::status;
 use turboshake::MESSAGE_LIMIT;
 use turboshake::OUTPUT_LIMIT;
-
-pub(crate) const ABSORBING: u8 = 0;
-
-pub(crate) const SQUEEZING: u8 = 1;
-
-pub(crate) const CUSTOMIZING: u8 = 2;
 
 pub(crate) fn fresh() -> Run
     ensures { λ r. ⌜ ((rate chaining : ℕ) → r ≡ freshOf rate chaining) ⌝ }
@@ -100,7 +97,7 @@ fn place(at: Progress) -> Place
     }
 }
 
-// What a closed run holds beside its lanes: nothing is squeezed yet.
+// What a run that is closed now holds beside its lanes.
 fn closed(rate: usize, chaining: usize, at: Progress, customized: u64) -> Progress
     requires { ⌜ (0 < rate) × (chaining ≤ 64) × (at .absorbed ≤ messageLimit) × (customized ≤ customizationLimit) × (at .squeezed ≤ outputLimit) ⌝ }
     ensures { λ r. ⌜ r ≡ record { node = 0; leaf = 0; phase = 1; absorbed = at .absorbed; customized = customized; squeezed = at .squeezed; permutations = closedKt rate chaining (at .absorbed + customized) customized (at .squeezed) } ⌝ }
@@ -116,7 +113,7 @@ fn closed(rate: usize, chaining: usize, at: Progress, customized: u64) -> Progre
 }
 
 // The position of the node that the chunk in hand goes into.
-fn in_hand(at: Place) -> usize
+fn position_in_hand(at: Place) -> usize
     ensures { λ r. ⌜ r ≡ cond (eqb (at .index) 0) (at .node) (at .leaf) ⌝ }
 {
     if at.index == 0 {
@@ -130,7 +127,7 @@ fn count_after(rate: usize, chaining: usize, at: Progress, from: Place, more: us
     requires { ⌜ (0 < rate) × (chaining ≤ 64) × (openDue rate chaining at ≡ true) × (from ≡ placeOf at) × (at .absorbed + at .customized + more ≤ messageLimit + customizationLimit) ⌝ }
     ensures { λ r. ⌜ r ≡ openKt rate chaining (at .absorbed + at .customized + more) ⌝ }
 {
-    if more <= rate - in_hand(from) {
+    if more <= rate - position_in_hand(from) {
         if more <= tree::CHUNK - from.position {
             return at.permutations;
         }
@@ -150,7 +147,7 @@ pub(crate) fn absorb(
     ensures { λ r. ⌜ answered r (now (node .exit)) (now (leaf .exit)) ≡ answerOf rate chaining (runWith (now (node .entry)) (now (leaf .entry)) at) (Call.absorb (now (piece .entry))) ⌝ }
 {
     if !reached::is_open(rate, chaining, at) {
-        return refused(reached::not_open(rate, chaining, at), at);
+        return refused(reached::status_if_not_open(rate, chaining, at), at);
     }
     if at.phase != ABSORBING {
         return refused(status::WRONG_PHASE, at);
@@ -185,7 +182,7 @@ pub(crate) fn customize(
     ensures { λ r. ⌜ answered r (now (node .exit)) (now (leaf .exit)) ≡ answerOf rate chaining (runWith (now (node .entry)) (now (leaf .entry)) at) (Call.customize (now (piece .entry))) ⌝ }
 {
     if !reached::is_open(rate, chaining, at) {
-        return refused(reached::not_open(rate, chaining, at), at);
+        return refused(reached::status_if_not_open(rate, chaining, at), at);
     }
     let total = at.customized + piece.len() as u64;
     if CUSTOMIZATION_LIMIT < total {
@@ -218,7 +215,7 @@ pub(crate) fn finalize(
     ensures { λ r. ⌜ answered r (now (node .exit)) (now (leaf .exit)) ≡ answerOf rate chaining (runWith (now (node .entry)) (now (leaf .entry)) at) (Call.finalize (now (customization .entry))) ⌝ }
 {
     if !reached::is_open(rate, chaining, at) {
-        return refused(reached::not_open(rate, chaining, at), at);
+        return refused(reached::status_if_not_open(rate, chaining, at), at);
     }
     if at.phase != ABSORBING {
         return refused(status::WRONG_PHASE, at);
@@ -246,7 +243,7 @@ pub(crate) fn finish(
     ensures { λ r. ⌜ answered r (now (node .exit)) (now (leaf .exit)) ≡ answerOf rate chaining (runWith (now (node .entry)) (now (leaf .entry)) at) Call.finish ⌝ }
 {
     if !reached::is_open(rate, chaining, at) {
-        return refused(reached::not_open(rate, chaining, at), at);
+        return refused(reached::status_if_not_open(rate, chaining, at), at);
     }
     if at.phase != CUSTOMIZING {
         return refused(status::WRONG_PHASE, at);
@@ -273,7 +270,7 @@ pub(crate) fn squeeze(
     ensures { λ r. ⌜ ((leaf : List ℕ) → now (out .exit) ≡ outputOf rate chaining (runWith (now (node .entry)) leaf at) (now (out .entry))) ⌝ }
 {
     if !reached::is_closed(rate, chaining, at) {
-        return refused(reached::not_closed(rate, chaining, at), at);
+        return refused(reached::status_if_not_closed(rate, chaining, at), at);
     }
     let total = at.squeezed + out.len() as u64;
     if OUTPUT_LIMIT < total {

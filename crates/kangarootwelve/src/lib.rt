@@ -19,6 +19,13 @@ ghost use lib.ListN.{length};
 ghost use Rattle.kangarootwelve.specs.Model.{encodingOf};
 ghost use Rattle.kangarootwelve.specs.Mac.{macStatus, macOutput, verdictOf};
 
+// The phases of a run.
+const ABSORBING: u8 = 0;
+
+const SQUEEZING: u8 = 1;
+
+const CUSTOMIZING: u8 = 2;
+
 // The most bytes of a customization string.
 pub const CUSTOMIZATION_LIMIT: u64 = 16777215;
 

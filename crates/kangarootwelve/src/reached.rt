@@ -6,11 +6,11 @@ ghost use lib.Dec.{eqb};
 ghost use Rattle.turboshake.specs.Transcript.{messageLimit};
 ghost use Rattle.kangarootwelve.specs.Transcript.{customizationLimit};
 ghost use Rattle.kangarootwelve.specs.Inside.{openDue, reachedAt};
+use crate::ABSORBING;
 use crate::CUSTOMIZATION_LIMIT;
+use crate::CUSTOMIZING;
 use crate::Progress;
-use crate::calls::ABSORBING;
-use crate::calls::CUSTOMIZING;
-use crate::calls::SQUEEZING;
+use crate::SQUEEZING;
 use crate::totals;
 use crate::tree;
 use sponge::status;
@@ -27,7 +27,8 @@ fn customized_most(phase: u8) -> u64
     CUSTOMIZATION_LIMIT
 }
 
-// Whether the positions and the permutations are those that the bytes of M and C tell. The node in hand is reached where the chunk's bytes lead.
+// Whether an open run has the positions and the permutations that its bytes of M and C tell. `reached` is the position due in the node that the
+// chunk in hand goes into.
 fn is_due(rate: usize, chaining: usize, at: Progress) -> bool
     requires { ⌜ (0 < rate) × (chaining ≤ 64) × (at .absorbed + at .customized ≤ messageLimit + customizationLimit) ⌝ }
     ensures { λ r. ⌜ r ≡ openDue rate chaining at ⌝ }
@@ -51,7 +52,7 @@ fn is_due(rate: usize, chaining: usize, at: Progress) -> bool
     at.node == totals::position_after(rate, totals::node_bytes(chaining, index - 1))
 }
 
-// Whether a run reached from a fresh one and not closed has these.
+// Whether a run reached from a fresh one that is not closed has this phase, these totals, positions and permutations.
 pub(crate) fn is_open(rate: usize, chaining: usize, at: Progress) -> bool
     requires { ⌜ (0 < rate) × (chaining ≤ 64) ⌝ }
     ensures { λ r. ⌜ r ≡ cond (eqb (at .phase) 1) false (reachedAt rate chaining at) ⌝ }
@@ -74,7 +75,7 @@ pub(crate) fn is_open(rate: usize, chaining: usize, at: Progress) -> bool
     is_due(rate, chaining, at)
 }
 
-// Whether one that is closed has.
+// The same of a run that is closed.
 pub(crate) fn is_closed(rate: usize, chaining: usize, at: Progress) -> bool
     requires { ⌜ (0 < rate) × (chaining ≤ 64) ⌝ }
     ensures { λ r. ⌜ r ≡ cond (eqb (at .phase) 1) (reachedAt rate chaining at) false ⌝ }
@@ -94,15 +95,15 @@ pub(crate) fn is_closed(rate: usize, chaining: usize, at: Progress) -> bool
     if at.node != totals::position_after(rate, at.squeezed) {
         return false;
     }
-    if at.leaf != 0 {
+    let total = at.absorbed + at.customized;
+    if at.permutations != totals::closed_kt(rate, chaining, total, at.customized, at.squeezed) {
         return false;
     }
-    let total = at.absorbed + at.customized;
-    at.permutations == totals::closed_kt(rate, chaining, total, at.customized, at.squeezed)
+    at.leaf == 0
 }
 
-// What a call that needs an open run answers on one that is not: 3 if it is closed, else 5.
-pub(crate) fn not_open(rate: usize, chaining: usize, at: Progress) -> u8
+// The status of a call that needs an open run, on a run that is none: 3 for a closed one that was reached, else 5.
+pub(crate) fn status_if_not_open(rate: usize, chaining: usize, at: Progress) -> u8
     requires { ⌜ (0 < rate) × (chaining ≤ 64) ⌝ }
     ensures { λ r. ⌜ r ≡ cond (cond (eqb (at .phase) 1) (reachedAt rate chaining at) false) 3 5 ⌝ }
 {
@@ -112,8 +113,8 @@ pub(crate) fn not_open(rate: usize, chaining: usize, at: Progress) -> u8
     status::UNREACHABLE
 }
 
-// What one that needs a closed run answers on one that is not.
-pub(crate) fn not_closed(rate: usize, chaining: usize, at: Progress) -> u8
+// The status of a squeeze, which needs a closed run, on a run that is none: 3 for an open one that was reached, else 5.
+pub(crate) fn status_if_not_closed(rate: usize, chaining: usize, at: Progress) -> u8
     requires { ⌜ (0 < rate) × (chaining ≤ 64) ⌝ }
     ensures { λ r. ⌜ r ≡ cond (cond (eqb (at .phase) 1) false (reachedAt rate chaining at)) 3 5 ⌝ }
 {

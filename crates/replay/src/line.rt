@@ -83,8 +83,8 @@ fn put_positions(text: &mut [u8], node: u64, leaf: u64)
     put_number(text, 5, leaf);
 }
 
-// The same of KT: after the bytes squeezed the customization bytes; the positions of the final node and of the leaf, then the lanes of
-// each.
+// The same of KT: after the bytes squeezed the customization bytes and the permutations; the positions of the final node and of the leaf, then the
+// lanes of each.
 pub fn write_kt_run(run: kangarootwelve::Run, text: &mut [u8]) -> bool
     requires { ⌜ 955 ≤ length (now text) ⌝ }
 {

@@ -13,7 +13,7 @@ use lib.Dec.{eqb}
 use lib.Arith.{digits-div}
 use borrow.Author.Tests.{eq-eqb, ne-eqb}
 use Rattle.sponge.specs.Cut.{ceil}
-use Rattle.sponge.specs.Waiting.{At, ready, step, steps, positionAfter, indexAfter}
+use Rattle.sponge.specs.Waiting.{At, step, steps, positionAfter, indexAfter}
 use Rattle.sponge.specs.Model.{padWith, afterByte, afterBytes}
 use Rattle.sponge.specs.Count.{counted, uncounted, countedFrom, openCount, closedCount, readCount}
 use Rattle.sponge.proofs.Position.{carry, stay}
@@ -126,7 +126,7 @@ module _ (r : ℕ) (pos : 0 < r) where
 
   -- ---- in the request's words
 
-  pub ceil-suc : (n : ℕ) → ceil r (suc n) ≡ suc (n / r)
+  ceil-suc : (n : ℕ) → ceil r (suc n) ≡ suc (n / r)
   ceil-suc n =
       let w : suc n + (r - 1) ≡ suc (n / r) * r + n % r = omega (arith, div-add-mod' n r) in
       rw w (digits-div (suc (n / r)) (mod-lt n pos))

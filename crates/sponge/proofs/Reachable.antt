@@ -1,4 +1,5 @@
--- Status 5 exactly when no list of calls from a fresh run reaches this phase, these totals and these positions: both directions,
+-- Status 5 exactly when no list of calls from a fresh run reaches this phase, these totals and these positions, among which a machine may have
+-- its permutations: both directions,
 -- for a machine whose test looks at nothing else.
 -- Assumes nothing.
 use mathlib.Core.Path.{_≡_, refl, sym, ap, _∙_, subst}

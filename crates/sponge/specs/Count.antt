@@ -37,7 +37,7 @@ openCount r m = indexAfter r m
 abbrev pub closedCount : ℕ → ℕ → ℕ → ℕ
 closedCount r m n = suc (m / r) + indexAfter r n
 
--- n bytes squeezed as the request words it: ceil(n / rate) - 1, or 0 when n is 0. At the close it is ceil((m + 1) / rate)
+-- n bytes, squeezed or absorbed, as the request words it: ceil(n / rate) - 1, or 0 when n is 0
 abbrev pub readCount : ℕ → ℕ → ℕ
 readCount r zero = 0
 readCount r (suc n) = ceil r (suc n) - 1

@@ -1,15 +1,11 @@
-use mathlib.Core.Path.{_≡_, sym, ap, _∙_}
-use Prim.Native.Nat.{ℕ, _+_, _≤_}
 use native.Mathlib.Omega.{arith}
-use Rattle.kangarootwelve.specs.Inside.{placeOf}
-use Rattle.kangarootwelve.specs.declared.Place.{Place}
 use Rattle.kangarootwelve.proofs.Numbers.{hand-fits, place-position, stays-within}
 use borrow.Author.Needs.{needs}
 use Rattle.kangarootwelve.proofs.calls.count_after.Statement.{statement}
 use Rattle.kangarootwelve.proofs.calls.count_after.Tie as tie
 
 sub-if1 : tie.Need-sub-if1
-sub-if1 c = let a = c .before in rw (c .in-hand .ensures) (hand-fits (a .args .rate) (a .args .chaining) (a .pre .0) (a .args .at) (a .args .from) (a .pre .2) (a .pre .3))
+sub-if1 c = let a = c .before in rw (c .position-in-hand .ensures) (hand-fits (a .args .rate) (a .args .chaining) (a .pre .0) (a .args .at) (a .args .from) (a .pre .2) (a .pre .3))
 
 sub-if2 : tie.Need-sub-if2
 sub-if2 c = let a = c .before .before .before in place-position (a .args .at) (a .args .from) (a .pre .3)
@@ -17,7 +13,7 @@ sub-if2 c = let a = c .before .before .before in place-position (a .args .at) (a
 returns : tie.Need-returns
 returns c =
     let a = c .before .before .before .before in
-    let h = c .before .before .before .in-hand in
+    let h = c .before .before .before .position-in-hand in
     stays-within (a .args .rate) (a .args .chaining) (a .pre .0) (a .args .at) (a .args .from) (a .args .more) (a .pre .2) (a .pre .3) (h .result) (h .ensures) (c .before .before .if1 .taken) (c .if2 .taken)
 
 add-open-kt : tie.Need-add-open-kt

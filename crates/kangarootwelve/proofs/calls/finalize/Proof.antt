@@ -1,5 +1,5 @@
-use mathlib.Core.Path.{_≡_, refl, ap, sym, _∙_, subst}
-use mathlib.Core.Bool.{true, false}
+use mathlib.Core.Path.{_≡_, ap, sym, _∙_, subst}
+use mathlib.Core.Bool.{true}
 use Prim.Native.Nat.{_+_, _≤_}
 use native.Mathlib.Omega.{arith}
 use borrow.Author.Tests.{not-true, not-false}
@@ -31,7 +31,7 @@ returns c =
     let a = c .before .before .before .before .before .args in
     let r : Run = runWith (a .node .now) (a .leaf .now) (a .at) in
     ap (λ (m : Moved). answered m (a .node .now) (a .leaf .now)) (c .refused .ensures)
-    ∙ not-open-is (a .rate) (a .chaining) r (finalize (a .customization .now)) (c .before .not-open .result) (c .before .not-open .ensures)
+    ∙ not-open-is (a .rate) (a .chaining) r (finalize (a .customization .now)) (c .before .status-if-not-open .result) (c .before .status-if-not-open .ensures)
     (sym (c .before .before .before .is-open .ensures) ∙ not-true _ (c .before .before .if1 .taken))
     (λ t h. finalize-3 (rules (a .rate) (a .chaining)) (machine (a .rate) (a .chaining)) (seen r) (passes (a .rate) (a .chaining) r true t) (a .customization .now) (λ z. omega (arith, h, z)))
 

@@ -1,5 +1,5 @@
-use mathlib.Core.Path.{_≡_, refl, ap, sym, _∙_, subst}
-use mathlib.Core.Bool.{true, false}
+use mathlib.Core.Path.{_≡_, ap, sym, _∙_}
+use mathlib.Core.Bool.{true}
 use mathlib.Core.List.{List, []}
 use Prim.Native.Nat.{ℕ, _+_}
 use native.Mathlib.Omega.{arith}
@@ -12,7 +12,6 @@ use Rattle.sponge.proofs.Answers.{squeeze-6, squeeze-0}
 use Rattle.kangarootwelve.specs.Transcript.{rules}
 use Rattle.kangarootwelve.specs.Model.{machine, seen}
 use Rattle.kangarootwelve.specs.Inside.{reachedAt, runWith, answered}
-use Rattle.kangarootwelve.specs.declared.Run.{Run}
 use Rattle.kangarootwelve.specs.declared.Moved.{Moved}
 use Rattle.kangarootwelve.proofs.Cases.{passes, Passed, fits, closed-passed, refused-is, refused-other, not-closed-is, untouched, untouched-other, closed-count, squeeze-answer, squeeze-written}
 use Rattle.kangarootwelve.proofs.calls.squeeze.Statement.{statement}
@@ -26,11 +25,11 @@ passed : (c : tie.Else1) → let a = c .before .before .before .args in Passed (
 passed c = let a = c .before .before .before in fits (a .args .rate) (a .args .chaining) (runWith (a .args .node .now) [] (a .args .at)) (a .pre .0) (was c .1)
 
 -- whatever the leaf holds
-refusal : (c : tie.After-not-closed) (leaf : List ℕ) → let a = c .before .before .before .before .args in
-    (runStatus (rules (a .rate) (a .chaining)) (machine (a .rate) (a .chaining)) (seen (runWith (a .node .now) leaf (a .at))) (squeeze (length (a .out .now))) ≡ c .not-closed .result) × (c .not-closed .result ≡ 0 → ⊥)
+refusal : (c : tie.After-status-if-not-closed) (leaf : List ℕ) → let a = c .before .before .before .before .args in
+    (runStatus (rules (a .rate) (a .chaining)) (machine (a .rate) (a .chaining)) (seen (runWith (a .node .now) leaf (a .at))) (squeeze (length (a .out .now))) ≡ c .status-if-not-closed .result) × (c .status-if-not-closed .result ≡ 0 → ⊥)
 refusal c leaf =
     let a = c .before .before .before .before .args in
-    not-closed-is (a .rate) (a .chaining) (runWith (a .node .now) leaf (a .at)) (length (a .out .now)) (c .not-closed .result) (c .not-closed .ensures) (sym (c .before .before .is-closed .ensures) ∙ not-true _ (c .before .if1 .taken))
+    not-closed-is (a .rate) (a .chaining) (runWith (a .node .now) leaf (a .at)) (length (a .out .now)) (c .status-if-not-closed .result) (c .status-if-not-closed .ensures) (sym (c .before .before .is-closed .ensures) ∙ not-true _ (c .before .if1 .taken))
 
 returns : tie.Need-returns
 returns c =
@@ -38,8 +37,8 @@ returns c =
     let n = c .before in (
       λ leaf.
           ap (λ (m : Moved). answered m (a .node .now) leaf) (c .refused .ensures)
-          ∙ refused-other (a .rate) (a .chaining) (runWith (a .node .now) leaf (a .at)) (squeeze (length (a .out .now))) (n .not-closed .result) (refusal n leaf .1) (refusal n leaf .0),
-      λ leaf. untouched-other (a .rate) (a .chaining) (runWith (a .node .now) leaf (a .at)) (a .out .now) (n .not-closed .result) (refusal n leaf .1) (refusal n leaf .0),
+          ∙ refused-other (a .rate) (a .chaining) (runWith (a .node .now) leaf (a .at)) (squeeze (length (a .out .now))) (n .status-if-not-closed .result) (refusal n leaf .1) (refusal n leaf .0),
+      λ leaf. untouched-other (a .rate) (a .chaining) (runWith (a .node .now) leaf (a .at)) (a .out .now) (n .status-if-not-closed .result) (refusal n leaf .1) (refusal n leaf .0),
     )
 
 add-total : tie.Need-add-total

@@ -1,5 +1,5 @@
 use native.Mathlib.Omega.{arith}
-use mathlib.Core.Path.{refl, _∙_}
+use mathlib.Core.Path.{_∙_}
 use borrow.Author.Tests.{eq-eqb}
 use Prim.Native.Nat.{_≤_}
 use Rattle.kangarootwelve.specs.Transcript.{customizationLimit}

@@ -1,6 +1,5 @@
 use native.Mathlib.Omega.{arith}
 use Rattle.kangarootwelve.proofs.Encoding.{encode-1, encode-2, encode-3, encode-4}
-use borrow.Author.Needs.{needs}
 use Rattle.kangarootwelve.proofs.totals.encoded_bytes.Statement.{statement}
 use Rattle.kangarootwelve.proofs.totals.encoded_bytes.Tie as tie
 

@@ -1,4 +1,3 @@
-use mathlib.Core.Path.{_∙_}
 use native.Mathlib.Omega.{arith}
 use Rattle.kangarootwelve.proofs.Numbers.{leaves-fit}
 use Rattle.kangarootwelve.proofs.Published.{chunk-is}

@@ -1,9 +1,9 @@
--- The number of permutations of KT: along every byte of S the counted tree has what the totals tell, and so after the close.
+-- A tree and the number of its permutations: along every byte of S the number is what the totals tell, and so after the close.
 -- Assumes nothing.
-use mathlib.Core.Path.{_≡_, refl, sym, ap, _∙_}
+use mathlib.Core.Path.{_≡_, refl, ap, _∙_}
 use mathlib.Core.List.{List, [], _∷_, _++_}
 use mathlib.Core.Bool.{Bool, true, false}
-use Prim.Native.Nat.{ℕ, zero, suc, _+_, _*_, _<_, _≤_}
+use Prim.Native.Nat.{ℕ, zero, suc, _+_, _*_, _<_}
 use native.Mathlib.Nat.{add-zero, zero-add, suc-mul, zero-mul}
 use native.Mathlib.Numerals.{add-one}
 use native.Mathlib.Omega.{arith}
@@ -48,43 +48,54 @@ closeAdded rate chaining (suc k) final leaf =
 
 -- a tree and the number of its permutations
 module _ (rate chaining : ℕ) where
-  abbrev pub countedPut : Tree × ℕ → ℕ → ℕ → Tree × ℕ
-  countedPut x i b = (putByte rate (x .0) i b, x .1 + putAdded rate (x .0 .index) (x .0 .final) (x .0 .leaf) 1)
+  abbrev pub numberedPut : Tree × ℕ → ℕ → ℕ → Tree × ℕ
+  numberedPut x i b = (putByte rate (x .0) i b, x .1 + putAdded rate (x .0 .index) (x .0 .final) (x .0 .leaf) 1)
 
-  abbrev pub countedEnd : Tree × ℕ → Tree × ℕ
-  countedEnd x = (endChunk rate chaining (x .0), x .1 + endAdded rate chaining (x .0 .index) (x .0 .final) (x .0 .leaf))
+  abbrev pub numberedEnd : Tree × ℕ → Tree × ℕ
+  numberedEnd x = (endChunk rate chaining (x .0), x .1 + endAdded rate chaining (x .0 .index) (x .0 .final) (x .0 .leaf))
 
-  abbrev pub countTree : At (Tree × ℕ) → List ℕ → At (Tree × ℕ)
-  countTree = steps countedEnd countedPut chunk
+  abbrev pub numberTree : At (Tree × ℕ) → List ℕ → At (Tree × ℕ)
+  numberTree = steps numberedEnd numberedPut chunk
 
-  abbrev pub countClose : Tree × ℕ → ℕ
-  countClose x = x .1 + closeAdded rate chaining (x .0 .index) (x .0 .final) (x .0 .leaf)
+  abbrev pub numberClose : Tree × ℕ → ℕ
+  numberClose x = x .1 + closeAdded rate chaining (x .0 .index) (x .0 .final) (x .0 .leaf)
 
-  abbrev pub countFinish : At (Tree × ℕ) → ℕ → ℕ
-  countFinish t n = countClose (countTree t (lengthEncode n) .value)
+  abbrev pub numberFinish : At (Tree × ℕ) → ℕ → ℕ
+  numberFinish t n = numberClose (numberTree t (lengthEncode n) .value)
 
-  abbrev pub countFinalize : At (Tree × ℕ) → List ℕ → ℕ
-  countFinalize t c = countFinish (countTree t c) (length c)
+  abbrev pub numberFinalize : At (Tree × ℕ) → List ℕ → ℕ
+  numberFinalize t c = numberFinish (numberTree t c) (length c)
 
--- ---- the tree of the counted definition is the tree
+-- ---- a fold seen through a function of its value
+
+abbrev pub atMap : {X Y : Type 0} → (X → Y) → At X → At Y
+atMap f s = record { value = f (s .value); position = s .position }
+
+module _ {X Y : Type 0} (f : X → Y) (full : X → X) (put : X → ℕ → ℕ → X) (full′ : Y → Y) (put′ : Y → ℕ → ℕ → Y)
+    (on-full : (x : X) → f (full x) ≡ full′ (f x)) (on-put : (x : X) (i b : ℕ) → f (put x i b) ≡ put′ (f x) i b) (r : ℕ) where
+  step-map : (s : At X) (b : ℕ) → atMap f (step full put r s b) ≡ step full′ put′ r (atMap f s) b
+  step-map s b = by (eqb (s .position) r) refl
+    where
+      by : (t : Bool) → eqb (s .position) r ≡ t → atMap f (step full put r s b) ≡ step full′ put′ r (atMap f s) b
+      by true e = rw e (ap (λ (y : Y). record { value = y; position = 1 }) (on-put (full (s .value)) 0 b ∙ ap (λ (y : Y). put′ y 0 b) (on-full (s .value))))
+      by false e = rw e (ap (λ (y : Y). record { value = y; position = suc (s .position) }) (on-put (s .value) (s .position) b))
+
+  pub steps-map : (s : At X) (p : List ℕ) → atMap f (steps full put r s p) ≡ steps full′ put′ r (atMap f s) p
+  steps-map s [] = refl
+  steps-map s (b ∷ p) = steps-map (step full put r s b) p ∙ ap (λ (t : At Y). steps full′ put′ r t p) (step-map s b)
+
+-- ---- the tree of a tree and a number
 
 abbrev pub plain : At (Tree × ℕ) → At Tree
-plain t = record { value = t .value .0; position = t .position }
+plain = atMap (λ (x : Tree × ℕ). x .0)
 
 module _ (rate chaining : ℕ) where
-  plain-step : (t : At (Tree × ℕ)) (b : ℕ) → plain (step (countedEnd rate chaining) (countedPut rate chaining) chunk t b) ≡ step (endChunk rate chaining) (putByte rate) chunk (plain t) b
-  plain-step t b = by (eqb (t .position) chunk) refl
-    where
-      by : (c : Bool) → eqb (t .position) chunk ≡ c → plain (step (countedEnd rate chaining) (countedPut rate chaining) chunk t b) ≡ step (endChunk rate chaining) (putByte rate) chunk (plain t) b
-      by true e = rw e
-      by false e = rw e
+  pub plain-tree : (t : At (Tree × ℕ)) (p : List ℕ) → plain (numberTree rate chaining t p) ≡ absorbTree rate chaining (plain t) p
+  plain-tree =
+      steps-map (λ (x : Tree × ℕ). x .0) (numberedEnd rate chaining) (numberedPut rate chaining) (endChunk rate chaining) (putByte rate) (λ x. refl) (λ x i b. refl) chunk
 
-  pub plain-tree : (t : At (Tree × ℕ)) (p : List ℕ) → plain (countTree rate chaining t p) ≡ absorbTree rate chaining (plain t) p
-  plain-tree t [] = refl
-  plain-tree t (b ∷ p) = plain-tree (step (countedEnd rate chaining) (countedPut rate chaining) chunk t b) p ∙ ap (λ (u : At Tree). absorbTree rate chaining u p) (plain-step t b)
-
-  pub counted-tree : (t : At (Tree × ℕ)) (p : List ℕ) → countTree rate chaining t p ≡ countedFrom (absorbTree rate chaining (plain t) p) (countTree rate chaining t p .value .1)
-  counted-tree t p = ap (λ (u : At Tree). countedFrom u (countTree rate chaining t p .value .1)) (plain-tree t p)
+  pub numbered-tree : (t : At (Tree × ℕ)) (p : List ℕ) → numberTree rate chaining t p ≡ countedFrom (absorbTree rate chaining (plain t) p) (numberTree rate chaining t p .value .1)
+  numbered-tree t p = ap (λ (u : At Tree). countedFrom u (numberTree rate chaining t p .value .1)) (plain-tree t p)
 
 module _ (rate chaining : ℕ) (pos : 0 < rate) where
   -- ---- the two positions are told by the chunk in hand and the position in it
@@ -97,11 +108,11 @@ module _ (rate chaining : ℕ) (pos : 0 < rate) where
   absorb-to : (n m : ℕ) (s : Sponge) (p : List ℕ) → s .position ≡ positionAfter rate n → n + length p ≡ m → absorbBytes permuted rate s p .position ≡ positionAfter rate m
   absorb-to n m s p e w = steps-position permuted xorByte rate pos n s p e ∙ ap (positionAfter rate) w
 
-  pub places-put : (q o b : ℕ) (t : Tree) → Places q o t → Places q (suc o) (putByte rate t o b)
+  places-put : (q o b : ℕ) (t : Tree) → Places q o t → Places q (suc o) (putByte rate t o b)
   places-put zero o b t h = rw (h .index-is) record { index-is = refl; final-is = absorb-to o (suc o) (t .final) (b ∷ []) (h .final-is) (add-one o); leaf-is = h .leaf-is }
   places-put (suc k) o b t h = rw (h .index-is) record { index-is = refl; final-is = h .final-is; leaf-is = absorb-to o (suc o) (t .leaf) (b ∷ []) (h .leaf-is) (add-one o) }
 
-  pub places-end : (q : ℕ) (t : Tree) → Places q chunk t → Places (suc q) 0 (endChunk rate chaining t)
+  places-end : (q : ℕ) (t : Tree) → Places q chunk t → Places (suc q) 0 (endChunk rate chaining t)
   unfolding marker
   places-end zero t h = rw (h .index-is) record { index-is = refl; final-is = absorb-to chunk (chunk + 8 + 0 * chaining) (t .final) marker (h .final-is) (omega arith); leaf-is = refl }
   places-end (suc k) t h = rw (h .index-is) record {
@@ -137,7 +148,7 @@ module _ (rate chaining : ℕ) (pos : 0 < rate) where
   value-length : (s : Sponge) → length (squeezeBytes permuted rate chaining (pad permuted rate s intermediateDomain)) ≡ chaining
   value-length s = length-squeeze permuted rate pos chaining (pad permuted rate s intermediateDomain)
 
-  told-put : (q o b : ℕ) (x : Tree × ℕ) → Told q o x → Told q (suc o) (countedPut rate chaining x o b)
+  told-put : (q o b : ℕ) (x : Tree × ℕ) → Told q o x → Told q (suc o) (numberedPut rate chaining x o b)
   told-put zero o b x h = record {
     places = places-put zero o b (x .0) (h .places);
     count-is = rw (h .places .index-is, h .count-is) (one-more o (x .0 .final) (h .places .final-is));
@@ -149,7 +160,7 @@ module _ (rate chaining : ℕ) (pos : 0 < rate) where
         rw (h .places .index-is, h .count-is) (omega arith);
   }
 
-  told-end : (q : ℕ) (x : Tree × ℕ) → Told q chunk x → Told (suc q) 0 (countedEnd rate chaining x)
+  told-end : (q : ℕ) (x : Tree × ℕ) → Told q chunk x → Told (suc q) 0 (numberedEnd rate chaining x)
   unfolding marker
   told-end zero x h = record {
     places = places-end zero (x .0) (h .places);
@@ -168,8 +179,8 @@ module _ (rate chaining : ℕ) (pos : 0 < rate) where
   }
 
   -- along every byte of S
-  pub counted-told : (n : ℕ) (t : At (Tree × ℕ)) (p : List ℕ) → After chunk Told n t → After chunk Told (n + length p) (countTree rate chaining t p)
-  counted-told n t p = after-steps (countedEnd rate chaining) (countedPut rate chaining) chunk chunk-pos Told told-put told-end n t p
+  pub numbered-told : (n : ℕ) (t : At (Tree × ℕ)) (p : List ℕ) → After chunk Told n t → After chunk Told (n + length p) (numberTree rate chaining t p)
+  numbered-told n t p = after-steps (numberedEnd rate chaining) (numberedPut rate chaining) chunk chunk-pos Told told-put told-end n t p
 
   -- the close, of a single node and of a tree
   single-closed : (o : ℕ) (x : Tree × ℕ) → Told 0 o x → x .1 + padAdded rate (x .0 .final .position) ≡ closedTree rate chaining 0 o 0
@@ -196,14 +207,14 @@ module _ (rate chaining : ℕ) (pos : 0 < rate) where
       absorb-to (chunk + 8 + k * chaining) (nodeLength rate chaining (suc k)) (t .final) (ending rate chaining (suc k) (t .leaf) ++ lengthEncode (suc k) ++ trailer) (h .final-is)
       (rw (end-length k (t .leaf), suc-mul) (omega arith))
 
-  closed-told : (q o : ℕ) (x : Tree × ℕ) → Told q o x → countClose rate chaining x ≡ closedTree rate chaining q o 0
+  closed-told : (q o : ℕ) (x : Tree × ℕ) → Told q o x → numberClose rate chaining x ≡ closedTree rate chaining q o 0
   closed-told zero o x h = rw (h .places .index-is) (single-closed o x h)
   closed-told (suc k) o x h = rw (h .places .index-is) (node-closed k o _ _ x h (end-length k (x .0 .leaf)) (node-end k o (x .0) (h .places)))
 
   -- C has k bytes
-  pub finish-told : (n k : ℕ) (t : At (Tree × ℕ)) → After chunk Told n t → countFinish rate chaining t k ≡ closedKt rate chaining n k 0
+  pub finish-told : (n k : ℕ) (t : At (Tree × ℕ)) → After chunk Told n t → numberFinish rate chaining t k ≡ closedKt rate chaining n k 0
   unfolding closedKt
-  finish-told n k t h = closed-told _ _ _ (counted-told n t (lengthEncode k) h .holds)
+  finish-told n k t h = closed-told _ _ _ (numbered-told n t (lengthEncode k) h .holds)
 
   -- ---- k bytes squeezed after j
 

@@ -1,10 +1,11 @@
--- Worked examples of the permutations of KT128 (request Q-10), of every message of that length. proofs/CountExamples.antt fills `Examples`.
+-- Worked examples of the permutations of KT128 (request Q-10), of every message of that length. proofs/CountExamples.antt fills it.
 -- Assumes nothing.
 use mathlib.Core.Path.{_≡_}
 use mathlib.Core.List.{List, [], _∷_}
 use Prim.Native.Nat.{ℕ}
 use lib.ListN.{length}
 use Rattle.sponge.specs.Transcript.{Call, Call.absorb, Call.customize, Call.finalize, Call.squeeze}
+use Rattle.kangarootwelve.specs.Published.{merged}
 use Rattle.kangarootwelve.specs.Claims.{ran}
 
 -- the permutations of a run of KT128 after these calls
@@ -20,6 +21,8 @@ pub record Examples : Type 0 where
   pub leaf-next : (m : List ℕ) → length m ≡ 16385 → after (absorb m ∷ []) ≡ 97
   -- C opens a chunk: its first byte ends chunk 0, and permutes nothing yet
   pub customization-opens : (m c : List ℕ) → length m ≡ 8192 → length c ≡ 1 → after (absorb m ∷ customize c ∷ []) ≡ 48
+  -- request Q-10's: S of 8,193 bytes, whatever is M's and C's of it, and 32 read
+  pub request : (m c : List ℕ) → length (merged m c) ≡ 8193 → after (absorb m ∷ finalize c ∷ squeeze 32 ∷ []) ≡ 51
   -- S of 8,193 bytes: M of 8,192, and the byte that encodes an empty C opens a chunk. Closed, and with 0, 1, 32, 168 and 169 bytes read
   pub closed : (m : List ℕ) → length m ≡ 8192 → after (absorb m ∷ finalize [] ∷ []) ≡ 51
   pub read-0 : (m : List ℕ) → length m ≡ 8192 → after (absorb m ∷ finalize [] ∷ squeeze 0 ∷ []) ≡ 51
