@@ -87,7 +87,7 @@ class Examples(Counted):
                 self.assertEqual(self.counts(number, closed, *(("squeeze", size) for size in sizes))[-1], 1 + more, (number, sizes))
 
     def test_limits(self):
-        """The most bytes fed, read and of C: the numbers that are due, by hand; with them a run is taken, and what it still counts is added."""
+        """The most bytes fed, read and of C: the numbers that are due, by hand; with them a run is taken."""
         fed, read = 2**34 - 1, 2**32 - 1
         for number, function in SPONGE.items():
             run = model_run.run_of(number)
@@ -230,7 +230,7 @@ class Refusals(unittest.TestCase):
         yield from (close, ("absorb", bytes(700)), close, ("squeeze", 2**32))
 
     def test_refused_call(self):
-        """1, 2, 3, 4, 6 and 8 count nothing, in the run and in the book, however long the piece is."""
+        """1, 3, 4, 6 and 8 count nothing, in the run and in the book, however long the piece is; 2, at totals that are set, in the run."""
         for number in RATES:
             book, run = transcript.book_of(number), model_run.run_of(number)
             answers = set()
