@@ -62,7 +62,7 @@ closed-requires : tie.Need-closed-requires
 closed-requires c κs =
     let a = c .before .before .before .before .before .before .before .before in
     let h = passed (c .before .before .before .before .before .before) in
-    (a .pre .0, a .pre .2, h .absorbed-fits, h .customized-fits, h .squeezed-fits)
+    (a .pre .0, a .pre .2, h .absorbed-fits, omega (arith, h .customized-fits), h .squeezed-fits)
 
 returns-3 : tie.Need-returns-3
 unfolding rules
