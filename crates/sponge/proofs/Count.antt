@@ -50,12 +50,17 @@ module _ {X : Type 0} (full : X → X) (put : X → ℕ → ℕ → X) (r : ℕ)
           let h : n + added r (suc (s .position)) (length bs) ≡ n + added r (s .position) (suc (length bs)) = rw e in
           ap (λ (t : At (X × ℕ)). steps (counted full) (uncounted put) r t bs) c ∙ g ∙ (λ i. countedFrom (steps full put r (sym q i) bs) (h i))
 
+  -- wherever in the block 80 goes
+  ended : (s : At X) (n d j : ℕ)
+      → record { value = counted full (uncounted put (step (counted full) (uncounted put) r (countedFrom s n) d .value) j 0x80); position = 0 }
+      ≡ countedFrom (record { value = full (put (step full put r s d .value) j 0x80); position = 0 }) (n + padAdded r (s .position))
+  ended s n d j =
+      ap (λ (t : At (X × ℕ)). record { value = counted full (uncounted put (t .value) j 0x80); position = 0 }) (steps-counted s n (d ∷ []))
+      ∙ ap (λ (k : ℕ). countedFrom (record { value = full (put (step full put r s d .value) j 0x80); position = 0 }) k) (sym (add-suc n (added r (s .position) 1)))
+
   pub pad-counted : (s : At X) (n d : ℕ) → padWith (counted full) r (uncounted put) (countedFrom s n) d ≡ countedFrom (padWith full r put s d) (n + padAdded r (s .position))
   unfolding padWith
-  pad-counted s n d =
-      let e = steps-counted s n (d ∷ []) in
-      ap (λ (t : At (X × ℕ)). record { value = counted full (uncounted put (t .value) (r - 1) 0x80); position = 0 }) e
-      ∙ ap (λ (k : ℕ). countedFrom (record { value = full (put (step full put r s d .value) (r - 1) 0x80); position = 0 }) k) (sym (add-suc n (added r (s .position) 1)))
+  pad-counted s n d = ended s n d _
 
 module _ {X : Type 0} (full : X → X) (r : ℕ) where
   pub after-counted : (k : ℕ) (s : At X) (n : ℕ) → afterBytes (counted full) r k (countedFrom s n) ≡ countedFrom (afterBytes full r k s) (n + added r (s .position) k)
