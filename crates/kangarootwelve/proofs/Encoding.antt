@@ -1,37 +1,21 @@
 -- What the loop of length_encode asks: the bytes come off a number at its low end, and go into the array from its end. And what a caller
 -- knows of an encoding.
 -- Assumes nothing.
-use mathlib.Core.Path.{_≡_, refl, sym, ap, ap₂, _∙_, subst}
-use mathlib.Core.List.{List, [], _∷_, _++_, append-assoc}
-use Prim.Native.Nat.{ℕ, zero, suc, _+_, _-_, _/_, _%_, _^_, _≤_, _<_, zero-le}
-use native.Mathlib.Nat.{div-lt-iff-lt-mul, zero-lt-suc, le-refl, pow-suc}
+use mathlib.Core.Path.{_≡_, refl, sym, ap, ap₂, _∙_}
+use mathlib.Core.List.{List, [], _∷_, _++_}
+use Prim.Native.Nat.{ℕ, zero, suc, _-_, _/_, _%_, _^_, _≤_, _<_}
+use native.Mathlib.Nat.{le-refl}
 use native.Mathlib.Numerals.{add-one}
 use native.Mathlib.Omega.{arith}
-use lib.ListN.{length, take, drop, set, replicate, length-append, length-replicate, length-drop, take-append-drop, drop-of-length-le}
-use lib.Seq.{set-split, drop-at, drop-set-add, length-take-le, take-all, take-take, take-set-le}
-use Rattle.kangarootwelve.specs.Published.{digits, lengthEncode}
+use lib.ListN.{length, take, drop, set, replicate, length-append, length-replicate, length-drop, take-append-drop}
+use lib.Seq.{drop-at, take-all, take-take, take-set-le}
+use Rattle.sponge.specs.Digits.{digits}
+use Rattle.sponge.proofs.Digits.{digits-last, number-behind, count-last, digits-short}
+use Rattle.kangarootwelve.specs.Published.{lengthEncode}
 use Rattle.kangarootwelve.specs.Model.{encodingOf}
 use Rattle.kangarootwelve.specs.declared.LengthEncoding.{LengthEncoding}
 
--- as many steps as the number are enough, and more change nothing
-digits-enough : (f g x : ℕ) → x ≤ f → x ≤ g → digits f x ≡ digits g x
-digits-enough zero zero x h k = refl
-digits-enough zero (suc g) zero h k = refl
-digits-enough zero (suc g) (suc x) h k = absurd (omega arith)
-digits-enough (suc f) zero zero h k = refl
-digits-enough (suc f) zero (suc x) h k = absurd (omega arith)
-digits-enough (suc f) (suc g) zero h k = refl
-digits-enough (suc f) (suc g) (suc x) h k = ap (λ (s : List ℕ). s ++ suc x % 256 ∷ []) (digits-enough f g (suc x / 256) (omega arith) (omega arith))
-
--- the last byte
-digits-last : (x : ℕ) → 0 < x → digits x x ≡ digits (x / 256) (x / 256) ++ x % 256 ∷ []
-digits-last zero h = absurd (omega arith)
-digits-last (suc x) h = ap (λ (s : List ℕ). s ++ suc x % 256 ∷ []) (digits-enough x (suc x / 256) (suc x / 256) (omega arith) (le-refl _))
-
 -- ---- how many bytes an encoding has
-
-count-last : (x : ℕ) → 0 < x → length (digits x x) ≡ suc (length (digits (x / 256) (x / 256)))
-count-last x h = ap length (digits-last x h) ∙ length-append (digits (x / 256) (x / 256)) (x % 256 ∷ []) ∙ add-one _
 
 count-1 : (x : ℕ) → 0 < x → x < 256 → length (digits x x) ≡ 1
 count-1 x h l = let z : x / 256 ≡ 0 = omega arith in count-last x h ∙ rw z
@@ -58,65 +42,22 @@ encode-3 x h l = encode-count x 2 (count-2 x h l)
 pub encode-4 : (x : ℕ) → 65536 ≤ x → x < 16777216 → 4 ≡ length (lengthEncode x)
 encode-4 x h l = encode-count x 3 (count-3 x h l)
 
-drop-set : (s : List ℕ) (j b : ℕ) → j < length s → drop j (set s j b) ≡ b ∷ drop (suc j) s
-drop-set s j b h = rw (set-split s j b h) (drop-at (take j s) (b ∷ drop (suc j) s) j (length-take-le j s (omega arith)))
-
--- one byte more from the number into the array
-pub digits-put : (x i : ℕ) (s : List ℕ) → 0 < x → 0 < i → i ≤ 8 → length s ≡ 9
-    → digits (x / 256) (x / 256) ++ take (8 - (i - 1)) (drop (i - 1) (set s (i - 1) (x % 256))) ≡ digits x x ++ take (8 - i) (drop i s)
-digits-put x zero s h p l e = absurd (omega arith)
-digits-put x (suc j) s h p l e =
-    let j′ : suc j - 1 ≡ j = omega arith in
-    let k : 8 - j ≡ suc (8 - suc j) = omega arith in
-    rw (j′, k, drop-set s j (x % 256) (omega arith), digits-last x h) (sym (append-assoc (digits (x / 256) (x / 256)) (x % 256 ∷ []) (take (8 - suc j) (drop (suc j) s))))
-
 -- the bytes before it stay
 pub before-put : (i : ℕ) (s s₀ : List ℕ) (b : ℕ) → take i s ≡ take i s₀ → take (i - 1) (set s (i - 1) b) ≡ take (i - 1) s₀
 before-put i s s₀ b e =
     let less : i - 1 ≤ i = omega arith in
     take-set-le (i - 1) s (i - 1) b (le-refl (i - 1)) ∙ sym (take-take (i - 1) i s less) ∙ ap (take (i - 1)) e ∙ take-take (i - 1) i s₀ less
 
--- the array's room is enough
-pub room : (x i : ℕ) → 0 < i → x < 256 ^ i → x / 256 < 256 ^ (i - 1)
-room x zero p h = absurd (omega arith)
-room x (suc j) p h =
-    let j′ : suc j - 1 ≡ j = omega arith in
-    rw j′ (div-lt-iff-lt-mul (zero-lt-suc 255) .1 (subst (λ (n : ℕ). x < n) (pow-suc 256 j) h))
-
-pub room-some : (x i : ℕ) → 0 < x → x < 256 ^ i → 0 < i
-room-some x zero h l = absurd (omega arith)
-room-some x (suc i) h l = zero-lt-suc i
-
 -- the bytes, and behind them their number
 pub encoded : (x i : ℕ) (s : List ℕ) → i ≤ 8 → length s ≡ 9 → take (8 - i) (drop i s) ≡ digits x x → drop i (set s 8 (8 - i)) ≡ lengthEncode x
 unfolding lengthEncode
-encoded x i s h l e =
-    let n : length (drop i s) ≡ 9 - i = simp (length-drop, l) refl in
-    let w : i + (8 - i) ≡ 8 = omega arith in
-    let put : drop i (set s (i + (8 - i)) (8 - i)) ≡ take (8 - i) (drop i s) ++ (8 - i) ∷ drop (suc (8 - i)) (drop i s) =
-    drop-set-add i s (8 - i) (8 - i) ∙ set-split (drop i s) (8 - i) (8 - i) (omega arith) in
-    let none : drop (suc (8 - i)) (drop i s) ≡ [] = drop-of-length-le (drop i s) {i = suc (8 - i)} (omega arith) in
-    let count : length (digits x x) ≡ 8 - i = ap length (sym e) ∙ length-take-le (8 - i) (drop i s) (omega arith) in
-    ap (λ (k : ℕ). drop i (set s k (8 - i))) (sym w) ∙ put
-    ∙ ap (λ (r : List ℕ). take (8 - i) (drop i s) ++ (8 - i) ∷ r) none
-    ∙ ap (λ (r : List ℕ). r ++ (8 - i) ∷ []) e
-    ∙ ap (λ (k : ℕ). digits x x ++ k ∷ []) (sym count)
+encoded x i s h l e = number-behind 8 i s (digits x x) h l e
 
 -- the part from there to the array's end
 pub encoded-part : (i x : ℕ) (s : List ℕ) → length s ≡ 9 → drop i s ≡ lengthEncode x → take (9 - i) (drop i s) ≡ lengthEncode x
 encoded-part i x s l e = take-all (9 - i) (drop i s) (rw (length-drop, l) (le-refl (9 - i))) ∙ e
 
 -- ---- the public call: the encoding at the end of nine bytes, after zeros
-
--- a number below 256 ^ k has at most k bytes
-digits-short : (f x k : ℕ) → x < 256 ^ k → length (digits f x) ≤ k
-digits-short zero x k h = zero-le
-digits-short (suc f) zero k h = zero-le
-digits-short (suc f) (suc x) zero h = absurd (omega arith)
-digits-short (suc f) (suc x) (suc k) h =
-    let k′ : suc k - 1 ≡ k = omega arith in
-    let less : length (digits f (suc x / 256)) ≤ k = digits-short f (suc x / 256) k (rw k′ at (room (suc x) (suc k) (zero-lt-suc k) h)) in
-    rw (length-append (digits f (suc x / 256)) (suc x % 256 ∷ [])) (omega arith)
 
 pub encoding-short : (x k : ℕ) → x < 256 ^ k → length (lengthEncode x) ≤ suc k
 unfolding lengthEncode

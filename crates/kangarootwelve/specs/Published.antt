@@ -2,20 +2,15 @@
 -- value and that of an inner digest.
 -- Assumes nothing.
 use mathlib.Core.List.{List, [], _∷_, _++_}
-use Prim.Native.Nat.{ℕ, zero, suc, _/_, _%_}
+use Prim.Native.Nat.{ℕ}
 use lib.ListN.{length, replicate}
 use Rattle.sponge.specs.Cut.{cut}
+use Rattle.sponge.specs.Digits.{digits}
 use Rattle.turboshake.specs.Published.{turboshake}
 
 -- ---- 3.3: length_encode
 
--- the bytes of x, most significant first, with no leading zero: none for 0. The first argument bounds the steps, and x itself is enough
-abbrev pub digits : ℕ → ℕ → List ℕ
-digits zero x = []
-digits (suc f) zero = []
-digits (suc f) (suc x) = digits f (suc x / 256) ++ suc x % 256 ∷ []
-
--- the bytes of x, then one byte with their number
+-- the bytes of x, most significant first, then one byte with their number
 unfoldable pub lengthEncode : ℕ → List ℕ
 lengthEncode x = digits x x ++ length (digits x x) ∷ []
 

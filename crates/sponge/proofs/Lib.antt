@@ -7,6 +7,7 @@ pub mod Waiting
 pub mod Published
 pub mod Position
 pub mod Count
+pub mod Digits
 pub mod FirstStatus
 pub mod Valid
 pub mod Following

@@ -1,4 +1,5 @@
 pub mod Cut
+pub mod Digits
 pub mod Published
 pub mod Waiting
 pub mod Words

@@ -6,8 +6,9 @@ use native.Mathlib.Omega.{arith}
 use lib.ListN.{length, take, drop, length-set}
 use lib.Seq.{take-set-le}
 use borrow.Author.Needs.{needs}
-use Rattle.kangarootwelve.specs.Published.{digits}
-use Rattle.kangarootwelve.proofs.Encoding.{digits-put, before-put, room, room-some, encoded}
+use Rattle.sponge.specs.Digits.{digits}
+use Rattle.sponge.proofs.Digits.{digits-put, room, room-some}
+use Rattle.kangarootwelve.proofs.Encoding.{before-put, encoded}
 use Rattle.kangarootwelve.proofs.encode.length_encode.Statement.{statement}
 use Rattle.kangarootwelve.proofs.encode.length_encode.Tie as tie
 
@@ -40,7 +41,7 @@ loop-again c =
       length-set (l .encoded) (l .i - 1) (l .rest % 256) ∙ l .inv .0,
       omega arith,
       room (l .rest) (l .i) some (l .inv .2),
-      digits-put (l .rest) (l .i) (l .encoded) (c .loop-test .taken) some (l .inv .1) (l .inv .0) ∙ l .inv .3,
+      digits-put 8 (l .rest) (l .i) (l .encoded) (c .loop-test .taken) some (l .inv .1) (l .inv .0) ∙ l .inv .3,
       before-put (l .i) (l .encoded) _ (l .rest % 256) (l .inv .4),
     )
 
