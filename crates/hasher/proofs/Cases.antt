@@ -19,7 +19,7 @@ use Rattle.sponge.proofs.Valid.{absorb-done, pad-done, squeeze-done}
 use Rattle.sponge.proofs.Valid.{output-done as valid-output}
 use Rattle.sponge.proofs.Joining.{perform-done, perform-refused}
 use Rattle.sponge.proofs.Answers as answers
-use Rattle.sponge.proofs.Reachable.{Shape}
+use Rattle.sponge.proofs.Reachable.{Shape, Fixed}
 use Rattle.hasher.specs.Function.{messageLimit, Function, permutation, rules}
 use Rattle.hasher.specs.Model.{reachable, machine, seen, held, runWith, performOf, writtenOf}
 use Rattle.hasher.specs.declared.Answer.{Answer}
@@ -54,7 +54,7 @@ count-stays rate n total pos h l =
 pub fits : {A : Type 0} (F : Function A) (r : Run) → 0 < F .rate → reachable (F .rate) (F .outputLimit) (r .position) (r .phase) (r .absorbed) (r .squeezed) (r .permutations) ≡ true → (r .position ≤ F .rate) × (r .absorbed ≤ messageLimit) × (r .squeezed ≤ (F .outputLimit))
 unfolding machine rules
 fits F r h e =
-    let t : Shape (rules F) (machine F) positions (due (F .rate)) (seen r) = shape F (seen r) e in
+    let t : Shape (rules F) (machine F) positions (due (F .rate)) (Fixed (F .outputLimit)) (seen r) = shape F (seen r) e in
     (rw (first-is _ _ _ _ (t .positions-due)) (position-le (F .rate) (cond (eqb (r .phase) 0) (r .absorbed) (r .squeezed)) h), t .absorbed-fits, below (eqb (r .phase) 1) (t .squeezed-fits))
   where
     below : (t : Bool) → r .squeezed ≤ cond t (F .outputLimit) 0 → r .squeezed ≤ (F .outputLimit)

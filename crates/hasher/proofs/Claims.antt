@@ -222,6 +222,7 @@ module _ {A : Type 0} (F : Function A) (E : Meets F) where
         phase-is = sym (ap (λ (q : Run). q .phase) (left-is cs)) ∙ g .phase-is;
         absorbed-is = sym (ap (λ (q : Run). q .absorbed) (left-is cs)) ∙ g .absorbed-is;
         customized-is = refl;
+        limit-is = refl;
         squeezed-is = sym (ap (λ (q : Run). q .squeezed) (left-is cs)) ∙ g .squeezed-is;
         positions-are = pair (sym (ap (λ (q : Run). q .position) (left-is cs)) ∙ g .position-is) (sym (ap (λ (q : Run). q .permutations) (left-is cs)) ∙ g .permutations-is);
       }

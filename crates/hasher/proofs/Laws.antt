@@ -23,7 +23,7 @@ use Rattle.sponge.proofs.Count.{steps-counted, pad-counted, after-counted, afte
 use Rattle.sponge.proofs.Valid.{pad-position}
 use Rattle.sponge.proofs.Streaming.{cond-zero, Fits, Laws}
 use Rattle.sponge.proofs.Joining.{Stays}
-use Rattle.sponge.proofs.Reachable.{Shape}
+use Rattle.sponge.proofs.Reachable.{Shape, Fixed}
 use Rattle.hasher.specs.Function.{messageLimit, Function, permutation, output, rules}
 use Rattle.hasher.specs.Model.{reachable, machine}
 
@@ -31,8 +31,8 @@ use Rattle.hasher.specs.Model.{reachable, machine}
 abbrev pub positions : Counted → List ℕ
 positions s = s .position ∷ s .value .1 ∷ []
 
-abbrev pub due : ℕ → ℕ → ℕ → ℕ → ℕ → List ℕ
-due rate phase absorbed customized squeezed = positionAfter rate (cond (eqb phase 0) absorbed squeezed) ∷ cond (eqb phase 0) (openCount rate absorbed) (closedCount rate absorbed squeezed) ∷ []
+abbrev pub due : ℕ → ℕ → ℕ → ℕ → ℕ → ℕ → List ℕ
+due rate phase absorbed customized squeezed limit = positionAfter rate (cond (eqb phase 0) absorbed squeezed) ∷ cond (eqb phase 0) (openCount rate absorbed) (closedCount rate absorbed squeezed) ∷ []
 
 both : (a b : Bool) → a && b ≡ true → (a ≡ true) × (b ≡ true)
 both a b e = and-eq-true-iff a b .0 e
@@ -55,7 +55,7 @@ module _ {A : Type 0} (F : Function A) where
   -- ---- the test of status 5 says what Shape says
 
   shape-by : (s : Counted) (h n k : ℕ) → reachable (F .rate) (F .outputLimit) (s .position) h n k (s .value .1) ≡ true
-      → Shape (rules F) (machine F) positions (due (F .rate)) (record { state = s; phase = h; absorbed = n; squeezed = k })
+      → Shape (rules F) (machine F) positions (due (F .rate)) (Fixed (F .outputLimit)) (record { state = s; phase = h; absorbed = n; squeezed = k })
   unfolding reachable rules machine
   shape-by s zero n k e =
       let a = both (leb n messageLimit) _ e in
@@ -65,6 +65,7 @@ module _ {A : Type 0} (F : Function A) where
         phase-fits = omega arith;
         absorbed-fits = leb-true _ _ (a .0);
         customized-fits = zero-le;
+        limit-due = refl;
         squeezed-fits = omega (arith, eqb-true k 0 (b .0));
         positions-due = pair (eqb-true _ _ (d .0)) (eqb-true _ _ (d .1));
       }
@@ -76,6 +77,7 @@ module _ {A : Type 0} (F : Function A) where
         phase-fits = omega arith;
         absorbed-fits = leb-true _ _ (a .0);
         customized-fits = zero-le;
+        limit-due = refl;
         squeezed-fits = leb-true _ _ (b .0);
         positions-due = pair (eqb-true _ _ (d .0)) (eqb-true _ _ (d .1));
       }
@@ -83,11 +85,11 @@ module _ {A : Type 0} (F : Function A) where
       let a = both (leb n messageLimit) _ (rw (ne-eqb (suc (suc h)) 0 (λ e. omega arith), ne-eqb (suc (suc h)) 1 (λ e. omega arith)) at e) in
       absurd (subst T (sym (a .1)) tt)
 
-  pub shape : (r : Run Counted) → machine F .reachable r ≡ true → Shape (rules F) (machine F) positions (due (F .rate)) r
+  pub shape : (r : Run Counted) → machine F .reachable r ≡ true → Shape (rules F) (machine F) positions (due (F .rate)) (Fixed (F .outputLimit)) r
   unfolding machine
   shape r e = shape-by (r .state) (r .phase) (r .absorbed) (r .squeezed) e
 
-  shaped-by : (s : Counted) (h n k : ℕ) → Shape (rules F) (machine F) positions (due (F .rate)) (record { state = s; phase = h; absorbed = n; squeezed = k })
+  shaped-by : (s : Counted) (h n k : ℕ) → Shape (rules F) (machine F) positions (due (F .rate)) (Fixed (F .outputLimit)) (record { state = s; phase = h; absorbed = n; squeezed = k })
       → reachable (F .rate) (F .outputLimit) (s .position) h n k (s .value .1) ≡ true
   unfolding reachable rules machine
   shaped-by s zero n k t =
@@ -96,7 +98,7 @@ module _ {A : Type 0} (F : Function A) where
   shaped-by s (suc zero) n k t = rw (le-leb n messageLimit (t .absorbed-fits), le-leb k (F .outputLimit) (t .squeezed-fits), eq-eqb (s .position) (positionAfter (F .rate) k) (first-is _ _ _ _ (t .positions-due)), eq-eqb (s .value .1) (closedCount (F .rate) n k) (second-is _ _ _ _ (t .positions-due)))
   shaped-by s (suc (suc h)) n k t = absurd (let l = t .phase-fits in omega arith)
 
-  pub shaped : (r : Run Counted) → Shape (rules F) (machine F) positions (due (F .rate)) r → machine F .reachable r ≡ true
+  pub shaped : (r : Run Counted) → Shape (rules F) (machine F) positions (due (F .rate)) (Fixed (F .outputLimit)) r → machine F .reachable r ≡ true
   unfolding machine
   shaped r t = shaped-by (r .state) (r .phase) (r .absorbed) (r .squeezed) t
 
@@ -123,12 +125,13 @@ module _ {A : Type 0} (F : Function A) where
         pair (ap (λ (t : Counted). t .position) c ∙ after-position (permutation F) (F .rate) pos j (spongeOf s) k e) (ap (λ (t : Counted). t .value .1) c ∙ rw (e, f) (squeeze-count (F .rate) pos n j k))
 
     reaches : (f : List ℕ) (h : Phase A) (n : ℕ) → Fits (rules F) (record { absorbed = f; phase = h; squeezed = n })
-        → Shape (rules F) (machine F) positions (due (F .rate)) (runOf (rules F) (machine F) (record { absorbed = f; phase = h; squeezed = n }))
+        → Shape (rules F) (machine F) positions (due (F .rate)) (Fixed (F .outputLimit)) (runOf (rules F) (machine F) (record { absorbed = f; phase = h; squeezed = n }))
     unfolding rules machine
     reaches f absorbing n t = record {
       phase-fits = zero-le;
       absorbed-fits = t .input-fits;
       customized-fits = zero-le;
+      limit-due = refl;
       squeezed-fits = t .output-fits;
       positions-due = absorb-due 0 (machine F .fresh) f refl refl ∙ ap (λ (m : ℕ). positionAfter (F .rate) m ∷ openCount (F .rate) m ∷ []) (zero-add (length f));
     }
@@ -137,6 +140,7 @@ module _ {A : Type 0} (F : Function A) where
       phase-fits = omega arith;
       absorbed-fits = t .input-fits;
       customized-fits = zero-le;
+      limit-due = refl;
       squeezed-fits = t .output-fits;
       positions-due =
           let a = absorb-due 0 (machine F .fresh) f refl refl ∙ ap (λ (m : ℕ). positionAfter (F .rate) m ∷ openCount (F .rate) m ∷ []) (zero-add (length f)) in
@@ -183,6 +187,10 @@ module _ {A : Type 0} (F : Function A) where
       customized-fresh = refl;
       customized-absorb = λ n s p. refl;
       customized-after = λ n s. refl;
+      limit-absorb = λ n s p. refl;
+      limit-customize = λ n s p. refl;
+      limit-finalize = λ n s a. refl;
+      limit-after = λ n s. refl;
       customizes = tt;
       after-zero = λ s. refl;
       after-add = after-adds (counted (permutation F)) (F .rate);
@@ -194,14 +202,15 @@ module _ {A : Type 0} (F : Function A) where
 
     -- ---- a run that 5 does not refuse stays one
 
-    stays-by : (s : Counted) (h n k : ℕ) (c : Call A) → Shape (rules F) (machine F) positions (due (F .rate)) (record { state = s; phase = h; absorbed = n; squeezed = k })
-        → statusOf (rules F) h n 0 k c ≡ 0
-        → Shape (rules F) (machine F) positions (due (F .rate)) (worked (rules F) (machine F) (record { state = s; phase = h; absorbed = n; squeezed = k }) c)
+    stays-by : (s : Counted) (h n k : ℕ) (c : Call A) → Shape (rules F) (machine F) positions (due (F .rate)) (Fixed (F .outputLimit)) (record { state = s; phase = h; absorbed = n; squeezed = k })
+        → statusOf (rules F) h n 0 k (F .outputLimit) c ≡ 0
+        → Shape (rules F) (machine F) positions (due (F .rate)) (Fixed (F .outputLimit)) (worked (rules F) (machine F) (record { state = s; phase = h; absorbed = n; squeezed = k }) c)
     unfolding rules machine
     stays-by s zero n k (absorb p) t e = record {
       phase-fits = zero-le;
       absorbed-fits = leb-true _ _ (cond-zero _ _ e);
       customized-fits = zero-le;
+      limit-due = refl;
       squeezed-fits = t .squeezed-fits;
       positions-due = absorb-due n s p (first-is _ _ _ _ (t .positions-due)) (second-is _ _ _ _ (t .positions-due));
     }
@@ -211,6 +220,7 @@ module _ {A : Type 0} (F : Function A) where
           phase-fits = omega arith;
           absorbed-fits = t .absorbed-fits;
           customized-fits = zero-le;
+          limit-due = refl;
           squeezed-fits = rw z zero-le;
           positions-due = rw z (pad-due n s (F .byte d) (first-is _ _ _ _ (t .positions-due)) (second-is _ _ _ _ (t .positions-due)));
         }
@@ -225,6 +235,7 @@ module _ {A : Type 0} (F : Function A) where
       phase-fits = t .phase-fits;
       absorbed-fits = t .absorbed-fits;
       customized-fits = zero-le;
+      limit-due = refl;
       squeezed-fits = leb-true _ _ (cond-zero _ _ e);
       positions-due = after-due n k j s (first-is _ _ _ _ (t .positions-due)) (second-is _ _ _ _ (t .positions-due));
     }

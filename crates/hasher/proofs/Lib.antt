@@ -4,5 +4,5 @@ pub mod Claims
 pub mod Counts
 pub mod Pieces
 pub mod OneGo
-mod Cases
+pub mod Cases
 mod Guards

@@ -43,7 +43,7 @@ module _ {A : Type 0} (F : Function A) where
     piece = λ n. done;
     customization = none;
     inputLimit = messageLimit;
-    outputLimit = F .outputLimit;
+    outputLimit = λ a. F .outputLimit;
   }
 
   -- ---- the permutations of the definition so far (request Q-10): the bytes joined go through the sponge that counts, and no formula over totals is used

@@ -41,6 +41,7 @@ module _ {A : Type 0} (F : Function A) where
     squeeze = λ k s. squeezeBytes (permutation F) (F .rate) k (spongeOf s);
     after = afterBytes (counted (permutation F)) (F .rate);
     customized = λ s. 0;
+    limit = λ s. F .outputLimit;
     reachable = λ r. reachable (F .rate) (F .outputLimit) (r .state .position) (r .phase) (r .absorbed) (r .squeezed) (r .state .value .1);
   }
 

@@ -24,7 +24,7 @@ pub shift-clerk : (events : List (List ℕ)) (name out : List ℕ) → EachFits 
 shift-clerk events name out each f g some h =
     let told = told-appends events (squeezing name) (length out) each (record {
       input-fits = rw (limits-are 168 32 .0) f;
-      output-fits = rw (limits-are 168 32 .1) h;
+      output-fits = rw (limits-are 168 32 .1 name) h;
       phase-taken = argument-is 168 32 name ∙ customization-taken (length name) g;
     }) in
     streaming-output (appends events (squeezing name) (length out))

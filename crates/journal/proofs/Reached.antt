@@ -13,11 +13,12 @@ use Rattle.sponge.specs.Transcript.{Call, Call.absorb, Call.customize, Call.fin
 use Rattle.sponge.specs.Runs as runs
 use Rattle.sponge.specs.Runs.{runOf}
 use Rattle.sponge.proofs.Reachable as generic
-use Rattle.sponge.proofs.Reachable.{Told}
+use Rattle.sponge.proofs.Reachable.{Told, Fixed}
+use Rattle.turboshake.specs.Transcript.{outputLimit}
 use Rattle.kangarootwelve.specs.Transcript as kt
 use Rattle.kangarootwelve.specs.Transcript.{Callable}
 use Rattle.kangarootwelve.specs.Model.{Nodes, machine, seen}
-use Rattle.kangarootwelve.proofs.Answers.{customized-is}
+use Rattle.kangarootwelve.proofs.Answers.{customized-is, limit-is}
 use Rattle.kangarootwelve.proofs.Encoding.{encode-zero}
 use Rattle.kangarootwelve.proofs.Laws.{positions, due, shape, shaped, first-is, second-is, third-is}
 use Rattle.kangarootwelve.proofs.Streaming as kt-streaming
@@ -54,8 +55,8 @@ empties-length (suc n) = rw encode-zero (ap suc (empties-length n))
 
 reached-at : (r : runs.Run Nodes) → machine 168 32 .reachable r ≡ true → Reached (dayOf r)
 reached-at r e =
-    let g : Told (kt.rules 168 32) (machine 168 32) laws positions (due 168 32) (shape 168 32) (shaped 168 32) Callable r =
-    generic.reachable-told (kt.rules 168 32) (machine 168 32) laws positions (due 168 32) (shape 168 32) (shaped 168 32) Callable (kt-streaming.statuses 168 32) r e in
+    let g : Told (kt.rules 168 32) (machine 168 32) laws positions (due 168 32) (Fixed outputLimit) (shape 168 32) (shaped 168 32) Callable r =
+    generic.reachable-told (kt.rules 168 32) (machine 168 32) laws positions (due 168 32) (Fixed outputLimit) (shape 168 32) (shaped 168 32) Callable (kt-streaming.statuses 168 32) r e in
     let es : List (List ℕ) = replicate (r .absorbed) [] in
     let l : length (message es) ≡ r .absorbed = empties-length (r .absorbed) in
     let b : Transcript (List ℕ) = record { absorbed = message es; phase = g .phase; squeezed = r .squeezed } in
@@ -64,8 +65,9 @@ reached-at r e =
     streaming cs .day ∙ ap dayTold (told-appends es (g .phase) (r .squeezed) (empties-fit (r .absorbed)) (g .fits (message es) l)) in
     let told : runs.Run Nodes = runOf (kt.rules 168 32) (machine 168 32) b in
     let customized : machine 168 32 .customized (told .state) ≡ machine 168 32 .customized (r .state) = g .customized-is (message es) in
+    let limit : machine 168 32 .limit (told .state) ≡ machine 168 32 .limit (r .state) = limit-is 168 32 (told .state) ∙ sym (limit-is 168 32 (r .state)) in
     let at : positions (told .state) ≡ positions (r .state) =
-    generic.same-positions (kt.rules 168 32) (machine 168 32) laws positions (due 168 32) (shape 168 32) (shaped 168 32) told r (laws .run-reachable b (g .fits (message es) l)) e (g .phase-is) l customized refl in
+    generic.same-positions (kt.rules 168 32) (machine 168 32) laws positions (due 168 32) (Fixed outputLimit) (shape 168 32) (shaped 168 32) told r (laws .run-reachable b (g .fits (message es) l)) e (g .phase-is) l customized limit refl in
     record {
       calls = cs;
       phase-is = ap (λ (j : Journal). j .run .phase) is ∙ g .phase-is;
@@ -85,8 +87,9 @@ reachable-reached j e = reached-at (seen (j .run)) e
 pub reached-reachable : (j : Journal) → Reached j → machine 168 32 .reachable (seen (j .run)) ≡ true
 reached-reachable j g =
     let passes : machine 168 32 .reachable (seen (ran (g .calls) .left .run)) ≡ true = rw (streaming (g .calls) .day) (laws .run-reachable _ (told-fits (g .calls))) in
-    generic.alike-reachable (kt.rules 168 32) (machine 168 32) laws positions (due 168 32) (shape 168 32) (shaped 168 32) (seen (ran (g .calls) .left .run)) (seen (j .run)) passes
-    (g .phase-is) (g .absorbed-is) (customized-is 168 32 _ ∙ g .customized-is ∙ sym (customized-is 168 32 (seen (j .run) .state))) (g .squeezed-is) (rw (g .node-is, g .leaf-is, g .permutations-is))
+    generic.alike-reachable (kt.rules 168 32) (machine 168 32) laws positions (due 168 32) (Fixed outputLimit) (shape 168 32) (shaped 168 32) (seen (ran (g .calls) .left .run)) (seen (j .run)) passes
+    (g .phase-is) (g .absorbed-is) (customized-is 168 32 _ ∙ g .customized-is ∙ sym (customized-is 168 32 (seen (j .run) .state)))
+    (limit-is 168 32 (seen (ran (g .calls) .left .run) .state) ∙ sym (limit-is 168 32 (seen (j .run) .state))) (g .squeezed-is) (rw (g .node-is, g .leaf-is, g .permutations-is))
 
 -- ---- 5 is the status of that test and of no other
 

@@ -17,7 +17,7 @@ use Rattle.kangarootwelve.specs.Transcript as kt
 use Rattle.kangarootwelve.specs.Transcript.{customizationLimit}
 use Rattle.kangarootwelve.specs.Model.{Nodes, machine, seen}
 use Rattle.kangarootwelve.proofs.Streaming as kt-streaming
-use Rattle.kangarootwelve.proofs.Answers.{limits-are, customization-is, customized-is}
+use Rattle.kangarootwelve.proofs.Answers.{limit-is, customization-is, customized-is}
 use Rattle.journal.specs.Published.{framed}
 use Rattle.journal.specs.Transcript.{ownStatus, framedCall, rulesAt}
 use Rattle.journal.specs.Model.{dayOf, performed, answerOf, replyOf, outputOf}
@@ -77,7 +77,7 @@ pub squeeze-squeeze : (j : Journal) (m n : ℕ) → machine 168 32 .reachable (s
     } ≡ replyOf j (squeeze (m + n))
 squeeze-squeeze j m n h o l =
     ap₂ (λ (x y : Reply Journal). record { status = y .status; bytes = x .bytes ++ y .bytes; left = y .left }) (reply-is j (squeeze m) tt) (second-is j (squeeze m) (squeeze n) tt tt)
-    ∙ ap asReply (joins .squeeze-squeeze (seen (j .run)) m n h o (rw (limits-are 168 32 .1) l))
+    ∙ ap asReply (joins .squeeze-squeeze (seen (j .run)) m n h o (rw (limit-is 168 32 (seen (j .run) .state)) l))
     ∙ sym (reply-is j (squeeze (m + n)) tt)
 
 pub squeeze-nothing : (j : Journal) → machine 168 32 .reachable (seen (j .run)) ≡ true → j .run .phase ≡ 1 → replyOf j (squeeze 0) ≡ record { status = 0; bytes = []; left = j }

@@ -38,9 +38,13 @@ module _ (rate chaining : ℕ) where
   unfolding rules
   argument-is c = refl
 
-  pub limits-are : (rules rate chaining .inputLimit ≡ messageLimit) × (rules rate chaining .outputLimit ≡ outputLimit)
+  pub limits-are : (rules rate chaining .inputLimit ≡ messageLimit) × ((c : List ℕ) → rules rate chaining .outputLimit c ≡ outputLimit)
   unfolding rules
-  limits-are = (refl, refl)
+  limits-are = (refl, λ c. refl)
+
+  pub limit-is : (s : Nodes) → machine rate chaining .limit s ≡ outputLimit
+  unfolding machine
+  limit-is s = refl
 
   pub customization-is : rules rate chaining .customization ≡ upTo customizationLimit (λ c. c)
   unfolding rules

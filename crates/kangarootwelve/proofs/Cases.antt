@@ -17,7 +17,7 @@ use Rattle.sponge.specs.Runs.{worked, bytesOut, runStatus}
 use Rattle.sponge.proofs.Valid.{fits-valid, squeeze-done}
 use Rattle.sponge.proofs.Valid.{output-done as valid-output}
 use Rattle.sponge.proofs.Joining.{perform-done, perform-refused}
-use Rattle.sponge.proofs.Reachable.{Shape}
+use Rattle.sponge.proofs.Reachable.{Shape, Fixed}
 use Rattle.sponge.proofs.Answers as answers
 use Rattle.turboshake.specs.Published.{turboshakeRounds}
 use Rattle.turboshake.specs.Transcript.{messageLimit, outputLimit}
@@ -73,7 +73,7 @@ module _ (rate chaining : ℕ) (r : Run) where
   pub fits : 0 < rate → Passes true → Passed
   unfolding machine rules
   fits pos e =
-      let t : Shape (rules rate chaining) (machine rate chaining) positions (due rate chaining) (seen r) = shape rate chaining (seen r) e in
+      let t : Shape (rules rate chaining) (machine rate chaining) positions (due rate chaining) (Fixed outputLimit) (seen r) = shape rate chaining (seen r) e in
       by (eqb (r .phase) 1) (t .positions-due) (t .absorbed-fits) (most-fits (r .phase) (r .customized) (t .customized-fits)) (t .squeezed-fits)
     where
       n : ℕ

@@ -148,6 +148,7 @@ module _ (rate chaining : ℕ) (pos : 0 < rate) where
         phase-is = sym (ap (λ (q : Run). q .phase) (left-is cs)) ∙ g .phase-is;
         absorbed-is = sym (ap (λ (q : Run). q .absorbed) (left-is cs)) ∙ g .absorbed-is;
         customized-is = sym (ap (λ (q : Run). q .customized) (left-is cs)) ∙ g .customized-is;
+        limit-is = refl;
         squeezed-is = sym (ap (λ (q : Run). q .squeezed) (left-is cs)) ∙ g .squeezed-is;
         positions-are = λ i. node i ∷ leaf i ∷ permutations i ∷ [];
       }

@@ -1,6 +1,6 @@
 -- What the totals tell of a run's positions and number of permutations, and that the test of status 5 says it.
 -- Assumes nothing.
-use mathlib.Core.Path.{_≡_, sym, subst}
+use mathlib.Core.Path.{_≡_, refl, sym, subst}
 use mathlib.Core.List.{List, [], _∷_}
 use mathlib.Core.Bool.{Bool, true, false, cond, _&&_, and-eq-true-iff}
 use Prim.Native.Nat.{ℕ, zero, suc, _+_, _≤_, _<_}
@@ -9,7 +9,7 @@ use lib.Dec.{T, eqb, leb}
 use borrow.Author.Tests.{eq-eqb, ne-eqb, eqb-true, le-leb, lt-leb, leb-true}
 use Rattle.sponge.specs.Waiting.{positionAfter}
 use Rattle.sponge.specs.Runs.{Run}
-use Rattle.sponge.proofs.Reachable.{Shape}
+use Rattle.sponge.proofs.Reachable.{Shape, Fixed}
 use Rattle.turboshake.specs.Transcript.{messageLimit, outputLimit}
 use Rattle.kangarootwelve.specs.Transcript.{customizationLimit, customizationStatus, rules}
 use Rattle.kangarootwelve.specs.Count.{openKt, closedKt, countDue}
@@ -19,8 +19,8 @@ use Rattle.kangarootwelve.specs.Model.{Nodes, finalDue, leafDue, placed,
 abbrev pub positions : Nodes → List ℕ
 positions s = s .final .position ∷ s .leaf .position ∷ s .permutations ∷ []
 
-abbrev pub due : ℕ → ℕ → ℕ → ℕ → ℕ → ℕ → List ℕ
-due rate chaining phase absorbed customized squeezed =
+abbrev pub due : ℕ → ℕ → ℕ → ℕ → ℕ → ℕ → ℕ → List ℕ
+due rate chaining phase absorbed customized squeezed limit =
     cond (eqb phase 1) (positionAfter rate squeezed ∷ 0 ∷ closedKt rate chaining (absorbed + customized) customized squeezed ∷ [])
     (finalDue rate chaining (absorbed + customized) ∷ leafDue rate (absorbed + customized) ∷ openKt rate chaining (absorbed + customized) ∷ [])
 
@@ -65,13 +65,13 @@ module _ (rate chaining : ℕ) where
 
   shape-by : (s : Nodes) (h n k : ℕ) → placed rate chaining (s .final .position) (s .leaf .position) h n (s .customized) k ≡ true
       → s .permutations ≡ countDue rate chaining h (n + s .customized) (s .customized) k
-      → Shape (rules rate chaining) (machine rate chaining) positions (due rate chaining) (record { state = s; phase = h; absorbed = n; squeezed = k })
+      → Shape (rules rate chaining) (machine rate chaining) positions (due rate chaining) (Fixed outputLimit) (record { state = s; phase = h; absorbed = n; squeezed = k })
   unfolding placed rules machine
   shape-by s zero n k e w =
       let a = both (leb n messageLimit) _ e in
       let m = both (leb (s .customized) 0) _ (a .1) in
       let d = open-test (s .final .position) (s .leaf .position) (n + s .customized) k (m .1) in
-      record { phase-fits = omega arith; absorbed-fits = leb-true _ _ (a .0); customized-fits = leb-true _ _ (m .0); squeezed-fits = d .0; positions-due = triple (d .1) (d .2) w }
+      record { phase-fits = omega arith; absorbed-fits = leb-true _ _ (a .0); customized-fits = leb-true _ _ (m .0); limit-due = refl; squeezed-fits = d .0; positions-due = triple (d .1) (d .2) w }
   shape-by s (suc zero) n k e w =
       let a = both (leb n messageLimit) _ e in
       let m = both (leb (s .customized) customizationLimit) _ (a .1) in
@@ -81,6 +81,7 @@ module _ (rate chaining : ℕ) where
         phase-fits = omega arith;
         absorbed-fits = leb-true _ _ (a .0);
         customized-fits = leb-true _ _ (m .0);
+        limit-due = refl;
         squeezed-fits = leb-true _ _ (b .0);
         positions-due = triple (eqb-true _ _ (d .0)) (eqb-true _ _ (d .1)) w;
       }
@@ -88,21 +89,21 @@ module _ (rate chaining : ℕ) where
       let a = both (leb n messageLimit) _ e in
       let m = both (leb (s .customized) customizationLimit) _ (a .1) in
       let d = open-test (s .final .position) (s .leaf .position) (n + s .customized) k (m .1) in
-      record { phase-fits = omega arith; absorbed-fits = leb-true _ _ (a .0); customized-fits = leb-true _ _ (m .0); squeezed-fits = d .0; positions-due = triple (d .1) (d .2) w }
+      record { phase-fits = omega arith; absorbed-fits = leb-true _ _ (a .0); customized-fits = leb-true _ _ (m .0); limit-due = refl; squeezed-fits = d .0; positions-due = triple (d .1) (d .2) w }
   shape-by s (suc (suc (suc h))) n k e w =
       let past : 2 < suc (suc (suc h)) = omega arith in
       let a = both (leb n messageLimit) _ (rw (ne-eqb (suc (suc (suc h))) 0 (λ e. omega arith), ne-eqb (suc (suc (suc h))) 1 (λ e. omega arith), lt-leb (suc (suc (suc h))) 2 past) at e) in
       let m = both (leb (s .customized) customizationLimit) _ (a .1) in
       absurd (subst T (sym (m .1)) tt)
 
-  pub shape : (r : Run Nodes) → machine rate chaining .reachable r ≡ true → Shape (rules rate chaining) (machine rate chaining) positions (due rate chaining) r
+  pub shape : (r : Run Nodes) → machine rate chaining .reachable r ≡ true → Shape (rules rate chaining) (machine rate chaining) positions (due rate chaining) (Fixed outputLimit) r
   unfolding machine reachable
   shape r e =
       let b = both (placed rate chaining (r .state .final .position) (r .state .leaf .position) (r .phase) (r .absorbed) (r .state .customized) (r .squeezed)) _ e in
       shape-by (r .state) (r .phase) (r .absorbed) (r .squeezed) (b .0) (eqb-true _ _ (b .1))
 
   -- the number, in every phase
-  pub count-due : (r : Run Nodes) → positions (r .state) ≡ due rate chaining (r .phase) (r .absorbed) (r .state .customized) (r .squeezed)
+  pub count-due : (r : Run Nodes) → positions (r .state) ≡ due rate chaining (r .phase) (r .absorbed) (r .state .customized) (r .squeezed) outputLimit
       → r .state .permutations ≡ countDue rate chaining (r .phase) (r .absorbed + r .state .customized) (r .state .customized) (r .squeezed)
   count-due r e = by (eqb (r .phase) 1) e
     where
@@ -116,7 +117,7 @@ module _ (rate chaining : ℕ) where
       by true e = third-is e
       by false e = third-is e
 
-  shaped-by : (s : Nodes) (h n k : ℕ) → Shape (rules rate chaining) (machine rate chaining) positions (due rate chaining) (record { state = s; phase = h; absorbed = n; squeezed = k })
+  shaped-by : (s : Nodes) (h n k : ℕ) → Shape (rules rate chaining) (machine rate chaining) positions (due rate chaining) (Fixed outputLimit) (record { state = s; phase = h; absorbed = n; squeezed = k })
       → placed rate chaining (s .final .position) (s .leaf .position) h n (s .customized) k ≡ true
   unfolding placed rules machine
   shaped-by s zero n k t =
@@ -141,7 +142,7 @@ module _ (rate chaining : ℕ) where
       )
   shaped-by s (suc (suc (suc h))) n k t = absurd (let l = t .phase-fits in omega arith)
 
-  pub shaped : (r : Run Nodes) → Shape (rules rate chaining) (machine rate chaining) positions (due rate chaining) r → machine rate chaining .reachable r ≡ true
+  pub shaped : (r : Run Nodes) → Shape (rules rate chaining) (machine rate chaining) positions (due rate chaining) (Fixed outputLimit) r → machine rate chaining .reachable r ≡ true
   unfolding machine reachable
   shaped r t =
       rw (

@@ -19,8 +19,8 @@ use Rattle.sponge.proofs.Count.{after-counted, after-adds}
 use Rattle.sponge.proofs.Published.{after-add, squeeze-add, length-squeeze}
 use Rattle.sponge.proofs.Streaming.{cond-zero, Fits, Customizes, Laws}
 use Rattle.sponge.proofs.Joining.{Stays}
-use Rattle.sponge.proofs.Reachable.{Shape}
-use Rattle.turboshake.specs.Transcript.{messageLimit}
+use Rattle.sponge.proofs.Reachable.{Shape, Fixed}
+use Rattle.turboshake.specs.Transcript.{messageLimit, outputLimit}
 use Rattle.kangarootwelve.specs.Published.{chunk, lengthEncode, merged, kt}
 use Rattle.kangarootwelve.specs.Transcript.{customizationLimit, customizationStatus, rules}
 use Rattle.kangarootwelve.specs.Tree.{Tree, putByte, endChunk, absorbTree, closeTree, finishTree, finalizeTree}
@@ -129,7 +129,7 @@ module _ (rate chaining : ℕ) where
     -- ---- the machine's laws
 
     reaches : (f : List ℕ) (h : Phase (List ℕ)) (n : ℕ) → Fits (rules rate chaining) (record { absorbed = f; phase = h; squeezed = n })
-        → Shape (rules rate chaining) (machine rate chaining) positions (due rate chaining) (runOf (rules rate chaining) (machine rate chaining) (record { absorbed = f; phase = h; squeezed = n }))
+        → Shape (rules rate chaining) (machine rate chaining) positions (due rate chaining) (Fixed outputLimit) (runOf (rules rate chaining) (machine rate chaining) (record { absorbed = f; phase = h; squeezed = n }))
     unfolding rules machine customizationStatus
     reaches f absorbing n t =
         let g = rw zero-add at (absorb-due 0 freshNodes f 0 fresh-due) in
@@ -137,6 +137,7 @@ module _ (rate chaining : ℕ) where
           phase-fits = zero-le;
           absorbed-fits = t .input-fits;
           customized-fits = zero-le;
+          limit-due = refl;
           squeezed-fits = t .output-fits;
           positions-due = rw (add-zero (length f)) g;
         }
@@ -147,6 +148,7 @@ module _ (rate chaining : ℕ) where
           phase-fits = omega arith;
           absorbed-fits = t .input-fits;
           customized-fits = rw (zero-add (length c)) (t .phase-taken);
+          limit-due = refl;
           squeezed-fits = t .output-fits;
           positions-due = rw (add-zero (length f), zero-add (length c)) d;
         }
@@ -158,6 +160,7 @@ module _ (rate chaining : ℕ) where
           phase-fits = omega arith;
           absorbed-fits = t .input-fits;
           customized-fits = leb-true _ _ (cond-zero _ _ (t .phase-taken));
+          limit-due = refl;
           squeezed-fits = t .output-fits;
           positions-due =
               triple (after-position permuted rate pos 0 (finishTree rate chaining u (length c)) n (finish-position u (length c)) ∙ ap (positionAfter rate) (zero-add n)) refl
@@ -230,6 +233,10 @@ module _ (rate chaining : ℕ) where
       customized-fresh = refl;
       customized-absorb = λ n s p. refl;
       customized-after = λ n s. refl;
+      limit-absorb = λ n s p. refl;
+      limit-customize = λ n s p. refl;
+      limit-finalize = λ n s a. refl;
+      limit-after = λ n s. refl;
       customizes = kt-customizes;
       after-zero = λ s. refl;
       after-add = after-joins;
@@ -243,19 +250,20 @@ module _ (rate chaining : ℕ) where
 
     -- a customization piece in either phase that takes it
     customize-stays : (s : Nodes) (h n k : ℕ) (p : List ℕ) → n ≤ messageLimit → k ≤ 0 → s .customized + length p ≤ customizationLimit → Opened (n + s .customized) s
-        → Shape (rules rate chaining) (machine rate chaining) positions (due rate chaining) (worked (rules rate chaining) (machine rate chaining) (record { state = s; phase = h; absorbed = n; squeezed = k }) (customize p))
+        → Shape (rules rate chaining) (machine rate chaining) positions (due rate chaining) (Fixed outputLimit) (worked (rules rate chaining) (machine rate chaining) (record { state = s; phase = h; absorbed = n; squeezed = k }) (customize p))
     unfolding rules machine
     customize-stays s h n k p a q m e = record {
       phase-fits = omega arith;
       absorbed-fits = a;
       customized-fits = m;
+      limit-due = refl;
       squeezed-fits = q;
       positions-due = rw (← add-assoc n (s .customized) (length p)) (absorb-due (n + s .customized) s p (s .customized + length p) e);
     }
 
-    stays-by : (s : Nodes) (h n k : ℕ) (c : Call (List ℕ)) → Shape (rules rate chaining) (machine rate chaining) positions (due rate chaining) (record { state = s; phase = h; absorbed = n; squeezed = k })
-        → statusOf (rules rate chaining) h n (s .customized) k c ≡ 0
-        → Shape (rules rate chaining) (machine rate chaining) positions (due rate chaining) (worked (rules rate chaining) (machine rate chaining) (record { state = s; phase = h; absorbed = n; squeezed = k }) c)
+    stays-by : (s : Nodes) (h n k : ℕ) (c : Call (List ℕ)) → Shape (rules rate chaining) (machine rate chaining) positions (due rate chaining) (Fixed outputLimit) (record { state = s; phase = h; absorbed = n; squeezed = k })
+        → statusOf (rules rate chaining) h n (s .customized) k outputLimit c ≡ 0
+        → Shape (rules rate chaining) (machine rate chaining) positions (due rate chaining) (Fixed outputLimit) (worked (rules rate chaining) (machine rate chaining) (record { state = s; phase = h; absorbed = n; squeezed = k }) c)
     unfolding rules machine customizationStatus
     stays-by s zero n k (absorb p) t e =
         let z : s .customized ≡ 0 = omega (arith, t .customized-fits) in
@@ -264,6 +272,7 @@ module _ (rate chaining : ℕ) where
           phase-fits = zero-le;
           absorbed-fits = leb-true _ _ (cond-zero _ _ e);
           customized-fits = t .customized-fits;
+          limit-due = refl;
           squeezed-fits = t .squeezed-fits;
           positions-due = rw (z, add-zero (n + length p)) (absorb-due n s p 0 g);
         }
@@ -276,6 +285,7 @@ module _ (rate chaining : ℕ) where
           phase-fits = omega arith;
           absorbed-fits = t .absorbed-fits;
           customized-fits = leb-true _ _ (cond-zero _ _ e);
+          limit-due = refl;
           squeezed-fits = rw z zero-le;
           positions-due = rw z (triple (finish-position (absorbTree rate chaining (treeAt n s) c) (length c)) refl (finalize-due n s c g));
         }
@@ -289,6 +299,7 @@ module _ (rate chaining : ℕ) where
       phase-fits = t .phase-fits;
       absorbed-fits = t .absorbed-fits;
       customized-fits = t .customized-fits;
+      limit-due = refl;
       squeezed-fits = leb-true _ _ (cond-zero _ _ e);
       positions-due =
           triple (after-position permuted rate pos k (s .final) j (first-is (t .positions-due))) (second-is (t .positions-due))
@@ -303,6 +314,7 @@ module _ (rate chaining : ℕ) where
           phase-fits = omega arith;
           absorbed-fits = t .absorbed-fits;
           customized-fits = t .customized-fits;
+          limit-due = refl;
           squeezed-fits = rw z zero-le;
           positions-due = rw z (triple (finish-position (treeAt (n + s .customized) s) (s .customized)) refl (finish-due (n + s .customized) s (s .customized) (t .positions-due)));
         }

@@ -1,7 +1,7 @@
 -- Demand 3 for KT, over every list of calls from a fresh run, and what follows from it. One proof over the rate and the chaining
 -- length; the two strengths differ in two numbers.
 -- Assumes nothing.
-use mathlib.Core.Path.{_≡_, refl, ap, _∙_}
+use mathlib.Core.Path.{_≡_, refl, sym, ap, _∙_}
 use mathlib.Core.List.{List}
 use mathlib.Core.Bool.{Bool, true, false, cond}
 use Prim.Native.Nat.{ℕ, zero, suc, _+_, _<_, _≤_}
@@ -17,7 +17,8 @@ use Rattle.sponge.specs.Callable.{Bytes, Slice}
 use Rattle.sponge.proofs.Streaming.{Fits}
 use Rattle.sponge.proofs.Corollaries as generic
 use Rattle.sponge.proofs.Corollaries.{Corollaries, history-held}
-use Rattle.sponge.proofs.Reachable.{Statuses}
+use Rattle.sponge.proofs.Reachable.{Statuses, Fixed}
+use Rattle.turboshake.specs.Transcript.{outputLimit}
 use Rattle.kangarootwelve.specs.Transcript.{customizationLimit, customizationStatus, customizedOf, rules, Callable}
 use Rattle.kangarootwelve.specs.Count.{countDue}
 use Rattle.kangarootwelve.specs.Model.{Nodes, machine, held, freshOf, answerOf, replyOf}
@@ -42,20 +43,21 @@ zeros-slice : (n : ℕ) → n ≤ customizationLimit → Slice (replicate n 0)
 zeros-slice n l = (zeros n, rw (length-replicate {A = ℕ} n 0) (omega arith))
 
 -- a C of any length within the limit
-pub statuses : (rate chaining : ℕ) → Statuses (rules rate chaining) (machine rate chaining) Callable
+pub statuses : (rate chaining : ℕ) → Statuses (rules rate chaining) (machine rate chaining) (Fixed outputLimit) Callable
 unfolding rules machine
 statuses rate chaining = record {
   nothing-taken = refl;
   byte-taken = refl;
   piece-other = λ n e. omega arith;
-  some = λ m. replicate m 0;
-  some-taken = λ m l. rw (length-replicate {A = ℕ} m 0) (customization-taken m l);
-  some-counted = λ n s m l. length-replicate m 0;
+  some = λ m l. replicate m 0;
+  some-taken = λ m l c e. rw (length-replicate {A = ℕ} m 0) (customization-taken m c);
+  some-counted = λ n s m l c e. length-replicate m 0;
+  some-limit = λ m l c e. sym e;
   argument-other = no-five rate chaining;
   can-absorb = ((omega arith, tt), omega arith);
   can-customize = λ m l. zeros-slice m (rw (length-replicate {A = ℕ} m 0) at l);
-  can-finalize = λ m l. zeros-slice m l;
-  can-squeeze = λ n l. omega arith;
+  can-finalize = λ m l c e. zeros-slice m c;
+  can-squeeze = λ n l e h. omega arith;
 }
 
 -- the run that a transcript tells of has the transcript's customization bytes
@@ -72,7 +74,7 @@ module _ (rate chaining : ℕ) (pos : 0 < rate) where
   -- the list theorem at the published KT, calls in a row, refusals, and status 5 in both directions
   pub corollaries : Corollaries (rules rate chaining) (machine rate chaining) positions Callable
   corollaries =
-      generic.corollaries (rules rate chaining) (machine rate chaining) (laws rate chaining pos) (stays rate chaining pos) positions (due rate chaining)
+      generic.corollaries (rules rate chaining) (machine rate chaining) (laws rate chaining pos) (stays rate chaining pos) positions (due rate chaining) (Fixed outputLimit)
       (shape rate chaining) (shaped rate chaining) Callable (statuses rate chaining)
 
   pub streaming : (cs : List (Call (List ℕ))) → Streaming (rules rate chaining) (machine rate chaining) cs

@@ -100,6 +100,7 @@ machine rate chaining = record {
     permutations = afterBytes (counted permuted) rate k (countedFrom (s .final) (s .permutations)) .value .1;
   };
   customized = λ s. s .customized;
+  limit = λ s. outputLimit;
   reachable = λ r. reachable rate chaining (r .state .final .position) (r .state .leaf .position) (r .phase) (r .absorbed) (r .state .customized) (r .squeezed) (r .state .permutations);
 }
 

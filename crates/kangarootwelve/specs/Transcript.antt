@@ -42,5 +42,5 @@ rules rate chaining = record {
   piece = λ n. done;
   customization = upTo customizationLimit (λ c. c);
   inputLimit = messageLimit;
-  outputLimit = outputLimit;
+  outputLimit = λ c. outputLimit;
 }

@@ -35,11 +35,11 @@ module _ {S A : Type 0} (U : Rules A) (M : Machine S A) (r : Run S) where
     pub squeeze-3 : (k : ℕ) → (r .phase ≡ 1 → ⊥) → runStatus U M r (squeeze k) ≡ 3
     squeeze-3 k f = rw (e, ne-eqb (r .phase) 1 f)
 
-    pub squeeze-6 : (k : ℕ) → r .phase ≡ 1 → U .outputLimit < r .squeezed + k → runStatus U M r (squeeze k) ≡ 6
-    squeeze-6 k f g = rw (e, eq-eqb (r .phase) 1 f, lt-leb (r .squeezed + k) (U .outputLimit) g)
+    pub squeeze-6 : (k : ℕ) → r .phase ≡ 1 → M .limit (r .state) < r .squeezed + k → runStatus U M r (squeeze k) ≡ 6
+    squeeze-6 k f g = rw (e, eq-eqb (r .phase) 1 f, lt-leb (r .squeezed + k) (M .limit (r .state)) g)
 
-    pub squeeze-0 : (k : ℕ) → r .phase ≡ 1 → r .squeezed + k ≤ U .outputLimit → runStatus U M r (squeeze k) ≡ 0
-    squeeze-0 k f g = rw (e, eq-eqb (r .phase) 1 f, le-leb (r .squeezed + k) (U .outputLimit) g)
+    pub squeeze-0 : (k : ℕ) → r .phase ≡ 1 → r .squeezed + k ≤ M .limit (r .state) → runStatus U M r (squeeze k) ≡ 0
+    squeeze-0 k f g = rw (e, eq-eqb (r .phase) 1 f, le-leb (r .squeezed + k) (M .limit (r .state)) g)
 
     pub customize-3 : (p : List ℕ) → r .phase ≡ 1 → runStatus U M r (customize p) ≡ 3
     customize-3 p f = rw (e, eq-eqb (r .phase) 1 f)

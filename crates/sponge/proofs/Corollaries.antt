@@ -30,7 +30,7 @@ module _ {S A : Type 0} (U : Rules A) (M : Machine S A) where
         → M .customized (r .state) + length (a ++ b) ≤ most → perform U M (perform U M r (customize a) .left) (customize b) ≡ perform U M r (customize (a ++ b))
     pub customize-nothing : (most : ℕ) (of : List ℕ → A) → U .customization ≡ upTo most of → (r : Run S) → M .reachable r ≡ true → r .phase ≡ 2
         → perform U M r (customize []) ≡ record { status = 0; bytes = []; left = r }
-    pub squeeze-squeeze : (r : Run S) (m n : ℕ) → M .reachable r ≡ true → r .phase ≡ 1 → r .squeezed + (m + n) ≤ U .outputLimit
+    pub squeeze-squeeze : (r : Run S) (m n : ℕ) → M .reachable r ≡ true → r .phase ≡ 1 → r .squeezed + (m + n) ≤ M .limit (r .state)
         → record {
           status = perform U M (perform U M r (squeeze m) .left) (squeeze n) .status;
           bytes = perform U M r (squeeze m) .bytes ++ perform U M (perform U M r (squeeze m) .left) (squeeze n) .bytes;
@@ -55,7 +55,8 @@ module _ {S A : Type 0} (U : Rules A) (M : Machine S A) where
         → M .customized (perform U M r (customize p) .left .state) ≡ M .customized (r .state) + length p
 
 module _ {S A : Type 0} (U : Rules A) (M : Machine S A) (positions : S → List ℕ) (can : Call A → Type 0) where
-  -- status 5 exactly when no list of calls from a fresh run reaches this phase, these totals and these positions; where it is another, here is one
+  -- status 5 exactly when no list of calls from a fresh run reaches this phase, these totals, this read limit and these positions; where it is
+  -- another, here is one
   pub record Five : Type 0 where
     pub five-unreached : (r : Run S) (c : Call A) → perform U M r c .status ≡ unreachable → Reached U M positions can r → ⊥
     pub unreached-five : (r : Run S) (c : Call A) → (Reached U M positions can r → ⊥) → perform U M r c .status ≡ unreachable
@@ -71,12 +72,12 @@ module _ {S A : Type 0} (U : Rules A) (M : Machine S A) (positions : S → List 
 
 -- ---- the proof, once for every function
 
-module _ {S A : Type 0} (U : Rules A) (M : Machine S A) (L : generic.Laws U M) (stays : joining.Stays U M) (positions : S → List ℕ) (due : ℕ → ℕ → ℕ → ℕ → List ℕ)
-    (shape : (r : Run S) → M .reachable r ≡ true → Shape U M positions due r) (shaped : (r : Run S) → Shape U M positions due r → M .reachable r ≡ true)
-    (can : Call A → Type 0) (O : Statuses U M can) where
+module _ {S A : Type 0} (U : Rules A) (M : Machine S A) (L : generic.Laws U M) (stays : joining.Stays U M) (positions : S → List ℕ) (due : ℕ → ℕ → ℕ → ℕ → ℕ → List ℕ)
+    (Limited : ℕ → Type 0) (shape : (r : Run S) → M .reachable r ≡ true → Shape U M positions due Limited r)
+    (shaped : (r : Run S) → Shape U M positions due Limited r → M .reachable r ≡ true) (can : Call A → Type 0) (O : Statuses U M Limited can) where
   squeeze-nothing : (r : Run S) → M .reachable r ≡ true → r .phase ≡ 1 → perform U M r (squeeze 0) ≡ record { status = 0; bytes = []; left = r }
   squeeze-nothing r h o =
-      let fits : r .squeezed ≤ U .outputLimit = subst (λ (p : ℕ). r .squeezed ≤ cond (eqb p 1) (U .outputLimit) 0) o (shape r h .squeezed-fits) in
+      let fits : r .squeezed ≤ M .limit (r .state) = subst (λ (p : ℕ). r .squeezed ≤ cond (eqb p 1) (M .limit (r .state)) 0) o (shape r h .squeezed-fits) in
       joining.squeeze-nothing U M L stays r h o fits
 
   customize-nothing : (most : ℕ) (of : List ℕ → A) → U .customization ≡ upTo most of → (r : Run S) → M .reachable r ≡ true → r .phase ≡ 2
@@ -104,20 +105,20 @@ module _ {S A : Type 0} (U : Rules A) (M : Machine S A) (L : generic.Laws U M) (
   }
 
   five-unreached : (r : Run S) (c : Call A) → perform U M r c .status ≡ unreachable → Reached U M positions can r → ⊥
-  five-unreached r c e g = subst T (sym (reached-reachable U M L positions due shape shaped can r g) ∙ status-five U M (O .piece-other) (O .argument-other) r c e) tt
+  five-unreached r c e g = subst T (sym (reached-reachable U M L positions due Limited shape shaped can r g) ∙ status-five U M (O .piece-other) (O .argument-other) r c e) tt
 
   unreached-five : (r : Run S) (c : Call A) → (Reached U M positions can r → ⊥) → perform U M r c .status ≡ unreachable
   unreached-five r c g = by (M .reachable r) refl
     where
       by : (t : Bool) → M .reachable r ≡ t → perform U M r c .status ≡ unreachable
-      by true e = absurd (g (reachable-reached U M L positions due shape shaped can O r e))
+      by true e = absurd (g (reachable-reached U M L positions due Limited shape shaped can O r e))
       by false e = five-status U M (O .piece-other) (O .argument-other) r c e
 
   other-reached : (r : Run S) (c : Call A) → (perform U M r c .status ≡ unreachable → ⊥) → Reached U M positions can r
   other-reached r c g = by (M .reachable r) refl
     where
       by : (t : Bool) → M .reachable r ≡ t → Reached U M positions can r
-      by true e = reachable-reached U M L positions due shape shaped can O r e
+      by true e = reachable-reached U M L positions due Limited shape shaped can O r e
       by false e = absurd (g (five-status U M (O .piece-other) (O .argument-other) r c e))
 
   pub corollaries : Corollaries U M positions can

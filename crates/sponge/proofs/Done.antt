@@ -32,7 +32,7 @@ module _ {S A : Type 0} (U : Rules A) (M : Machine S A) where
   pub record SqueezeDone (r : Run S) (k : ℕ) : Type 0 where
     pub reached : M .reachable r ≡ true
     pub squeezing : r .phase ≡ 1
-    pub fits : r .squeezed + k ≤ U .outputLimit
+    pub fits : r .squeezed + k ≤ M .limit (r .state)
 
   pub absorb-done : (r : Run S) (p : List ℕ) → perform U M r (absorb p) .status ≡ 0 → AbsorbDone r p
   absorb-done r p e =
@@ -51,8 +51,8 @@ module _ {S A : Type 0} (U : Rules A) (M : Machine S A) where
   pub part-done : (r : Run S) (m n : ℕ) → perform U M r (squeeze (m + n)) .status ≡ 0 → perform U M r (squeeze m) .status ≡ 0
   part-done r m n e =
       let x : SqueezeDone r (m + n) = squeeze-done r (m + n) e in
-      let l : r .squeezed + (m + n) ≤ U .outputLimit = x .fits in
-      perform-status U M r (squeeze m) ∙ rw (x .reached, eq-eqb (r .phase) 1 (x .squeezing), le-leb (r .squeezed + m) (U .outputLimit) (omega arith))
+      let l : r .squeezed + (m + n) ≤ M .limit (r .state) = x .fits in
+      perform-status U M r (squeeze m) ∙ rw (x .reached, eq-eqb (r .phase) 1 (x .squeezing), le-leb (r .squeezed + m) (M .limit (r .state)) (omega arith))
 
   -- the run that a done call leaves
   left-done : (r : Run S) (c : Call A) → perform U M r c .status ≡ 0 → perform U M r c .left ≡ worked U M r c
@@ -93,7 +93,7 @@ module _ {S A : Type 0} (U : Rules A) (M : Machine S A) (L : Laws U M) (stays : 
   squeeze-squeeze r m n e f =
       let x : SqueezeDone U M r m = squeeze-done U M r m e in
       let y : SqueezeDone U M (perform U M r (squeeze m) .left) n = squeeze-done U M (perform U M r (squeeze m) .left) n f in
-      let z : r .squeezed + m + n ≤ U .outputLimit = rw (left-done U M r (squeeze m) e) at (y .fits) in
+      let z : r .squeezed + m + n ≤ M .limit (r .state) = rw (left-done U M r (squeeze m) e, L .limit-after m (r .state)) at (y .fits) in
       joining.squeeze-squeeze U M L stays r m n (x .reached) (x .squeezing) (omega arith)
 
   -- and a squeeze that is done is two
@@ -110,5 +110,5 @@ module _ {S A : Type 0} (U : Rules A) (M : Machine S A) (L : Laws U M) (stays : 
   pub squeeze-nothing : (r : Run S) → perform U M r (squeeze 0) .status ≡ 0 → perform U M r (squeeze 0) .left ≡ r
   squeeze-nothing r e =
       let x : SqueezeDone U M r 0 = squeeze-done U M r 0 e in
-      let l : r .squeezed ≤ U .outputLimit = let k : r .squeezed + 0 ≤ U .outputLimit = x .fits in omega arith in
+      let l : r .squeezed ≤ M .limit (r .state) = let k : r .squeezed + 0 ≤ M .limit (r .state) = x .fits in omega arith in
       ap (λ (y : Reply (Run S)). y .left) (joining.squeeze-nothing U M L stays r (x .reached) (x .squeezing) l)

@@ -82,7 +82,7 @@ module _ {A : Type 0} (U : Rules A) where
 
 -- what a machine owes beside `Laws`: a run that 5 does not refuse is one after each call with status 0
 abbrev pub Stays : {S A : Type 0} → Rules A → Machine S A → Type 0
-Stays {S} {A} U M = (r : Run S) (c : Call A) → M .reachable r ≡ true → statusOf U (r .phase) (r .absorbed) (M .customized (r .state)) (r .squeezed) c ≡ 0 → M .reachable (worked U M r c) ≡ true
+Stays {S} {A} U M = (r : Run S) (c : Call A) → M .reachable r ≡ true → statusOf U (r .phase) (r .absorbed) (M .customized (r .state)) (r .squeezed) (M .limit (r .state)) c ≡ 0 → M .reachable (worked U M r c) ≡ true
 
 -- ---- of every run that 5 does not refuse, reached or not
 
@@ -110,7 +110,7 @@ module _ {S A : Type 0} (U : Rules A) (M : Machine S A) (L : Laws U M) (stays : 
       rw (h, open0, f, add-zero, fits, L .absorb-nothing (r .absorbed) (r .state))
 
   -- the bytes are the joined ones, and the run left is the same
-  pub squeeze-squeeze : (r : Run S) (m n : ℕ) → M .reachable r ≡ true → r .phase ≡ 1 → r .squeezed + (m + n) ≤ U .outputLimit
+  pub squeeze-squeeze : (r : Run S) (m n : ℕ) → M .reachable r ≡ true → r .phase ≡ 1 → r .squeezed + (m + n) ≤ M .limit (r .state)
       → record {
         status = perform U M (perform U M r (squeeze m) .left) (squeeze n) .status;
         bytes = perform U M r (squeeze m) .bytes ++ perform U M (perform U M r (squeeze m) .left) (squeeze n) .bytes;
@@ -119,19 +119,19 @@ module _ {S A : Type 0} (U : Rules A) (M : Machine S A) (L : Laws U M) (stays : 
   unfolding perform
   squeeze-squeeze r m n h o l =
       let open1 : eqb (r .phase) 1 ≡ true = eq-eqb _ _ o in
-      let first : leb (r .squeezed + m) (U .outputLimit) ≡ true = le-leb (r .squeezed + m) (U .outputLimit) (omega arith) in
-      let second : leb (r .squeezed + m + n) (U .outputLimit) ≡ true = le-leb (r .squeezed + m + n) (U .outputLimit) (omega arith) in
-      let whole : leb (r .squeezed + (m + n)) (U .outputLimit) ≡ true = le-leb (r .squeezed + (m + n)) (U .outputLimit) l in
+      let first : leb (r .squeezed + m) (M .limit (r .state)) ≡ true = le-leb (r .squeezed + m) (M .limit (r .state)) (omega arith) in
+      let second : leb (r .squeezed + m + n) (M .limit (r .state)) ≡ true = le-leb (r .squeezed + m + n) (M .limit (r .state)) (omega arith) in
+      let whole : leb (r .squeezed + (m + n)) (M .limit (r .state)) ≡ true = le-leb (r .squeezed + (m + n)) (M .limit (r .state)) l in
       let after-m : perform U M r (squeeze m) ≡ record { status = 0; bytes = M .squeeze m (r .state); left = worked U M r (squeeze m) } = rw (h, open1, first) in
       let h′ : M .reachable (worked U M r (squeeze m)) ≡ true = stays r (squeeze m) h (rw (open1, first)) in
-      rw after-m (rw (h′, h, open1, second, whole) (rw (L .after-add m n (r .state), L .squeeze-add m n (r .state), ← add-assoc)))
+      rw after-m (rw (h′, h, open1, L .limit-after m (r .state), second, whole) (rw (L .after-add m n (r .state), L .squeeze-add m n (r .state), ← add-assoc)))
 
-  pub squeeze-nothing : (r : Run S) → M .reachable r ≡ true → r .phase ≡ 1 → r .squeezed ≤ U .outputLimit
+  pub squeeze-nothing : (r : Run S) → M .reachable r ≡ true → r .phase ≡ 1 → r .squeezed ≤ M .limit (r .state)
       → perform U M r (squeeze 0) ≡ record { status = 0; bytes = []; left = r }
   unfolding perform
   squeeze-nothing r h o l =
       let open1 : eqb (r .phase) 1 ≡ true = eq-eqb _ _ o in
-      let fits : leb (r .squeezed) (U .outputLimit) ≡ true = le-leb (r .squeezed) (U .outputLimit) l in
+      let fits : leb (r .squeezed) (M .limit (r .state)) ≡ true = le-leb (r .squeezed) (M .limit (r .state)) l in
       let none : M .squeeze 0 (r .state) ≡ [] = sym (nothing _ (L .squeeze-length 0 (r .state))) in
       rw (h, open1, add-zero, fits, L .after-zero (r .state), none)
 

@@ -46,6 +46,10 @@ module _ {S A : Type 0} (U : Rules A) (M : Machine S A) (piece : ℕ → ℕ) wh
     customized-fresh = L .customized-fresh;
     customized-absorb = L .customized-absorb;
     customized-after = L .customized-after;
+    limit-absorb = L .limit-absorb;
+    limit-customize = L .limit-customize;
+    limit-finalize = L .limit-finalize;
+    limit-after = L .limit-after;
     customizes = named (U .customization) (L .customizes);
     after-zero = L .after-zero;
     after-add = L .after-add;

@@ -49,14 +49,14 @@ module _ {S A : Type 0} (U : Rules A) (M : Machine S A) where
         ∙ rw (transcribe-done U (told m absorbing) (finalize a) e)
 
     -- the published output, or a refusal
-    pub squeeze-run : (m : List ℕ) (a : A) (n : ℕ) → length m ≤ U .inputLimit → U .argument a ≡ 0 → n ≤ U .outputLimit
+    pub squeeze-run : (m : List ℕ) (a : A) (n : ℕ) → length m ≤ U .inputLimit → U .argument a ≡ 0 → n ≤ U .outputLimit a
         → perform U M (finalizedRun m a) (squeeze n) ≡ record { status = 0; bytes = U .output m a n; left = runOf U M (record { absorbed = m; phase = squeezing a; squeezed = n }) }
     squeeze-run m a n h t l =
         performs U M L (told m (squeezing a)) (squeeze n) (fits U m (squeezing a) h t)
-        ∙ rw (transcribe-done U (told m (squeezing a)) (squeeze n) (rw (zero-add, le-leb n (U .outputLimit) l)), zero-add)
+        ∙ rw (transcribe-done U (told m (squeezing a)) (squeeze n) (rw (zero-add, le-leb n (U .outputLimit a) l)), zero-add)
 
-    pub squeeze-long : (m : List ℕ) (a : A) (n : ℕ) → length m ≤ U .inputLimit → U .argument a ≡ 0 → U .outputLimit < n
+    pub squeeze-long : (m : List ℕ) (a : A) (n : ℕ) → length m ≤ U .inputLimit → U .argument a ≡ 0 → U .outputLimit a < n
         → perform U M (finalizedRun m a) (squeeze n) ≡ record { status = 6; bytes = []; left = finalizedRun m a }
     squeeze-long m a n h t l =
         performs U M L (told m (squeezing a)) (squeeze n) (fits U m (squeezing a) h t)
-        ∙ rw (transcribe-refused U (told m (squeezing a)) (squeeze n) 5 (rw (zero-add, lt-leb n (U .outputLimit) l)))
+        ∙ rw (transcribe-refused U (told m (squeezing a)) (squeeze n) 5 (rw (zero-add, lt-leb n (U .outputLimit a) l)))

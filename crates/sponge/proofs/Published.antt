@@ -78,27 +78,31 @@ module _ (P : List ℕ → List ℕ) (rate : ℕ) (pos : 0 < rate) where
           (walk-blocks a (take rate s) (pieces (g .q) rate (drop rate s)))
 
   -- zeros up to the end of the block change no lane
-  fill : (a : List ℕ) (s : List ℕ) (k : ℕ) (g : Held rate (length s)) → length s + k ≡ suc (g .q) * rate
-      → absorbBytes P rate (record { value = a; position = 0 }) (s ++ replicate k 0) ≡ record { value = absorbBytes P rate (record { value = a; position = 0 }) s .value; position = rate }
-  fill a s k g e =
-      rw (steps-append P xorByte rate (record { value = a; position = 0 }) s (replicate k 0), steps-pieces P xorByte rate pos (g .q) a s (g .lo) (g .hi))
-      (zeros k (walk P xorByte rate a (take rate s) (pieces (g .q) rate (drop rate s))) (length s - g .q * rate) (omega arith))
+  pub fill-block : (a : List ℕ) (s : List ℕ) → 0 < length s
+      → absorbBytes P rate (record { value = a; position = 0 }) (s ++ replicate (ceil rate (length s) * rate - length s) 0)
+      ≡ record { value = absorbBytes P rate (record { value = a; position = 0 }) s .value; position = rate }
+  fill-block a s h = by (held pos h)
+    where
+      k : ℕ
+      k = ceil rate (length s) * rate - length s
+
+      by : Held rate (length s) → absorbBytes P rate (record { value = a; position = 0 }) (s ++ replicate k 0)
+          ≡ record { value = absorbBytes P rate (record { value = a; position = 0 }) s .value; position = rate }
+      by g =
+          let e : length s + k ≡ suc (g .q) * rate = rw (g .is) (omega arith) in
+          rw (steps-append P xorByte rate (record { value = a; position = 0 }) s (replicate k 0), steps-pieces P xorByte rate pos (g .q) a s (g .lo) (g .hi))
+          (zeros k (walk P xorByte rate a (take rate s) (pieces (g .q) rate (drop rate s))) (length s - g .q * rate) (omega arith))
 
   -- the draft's padding: zeros, and v XORed into the last byte
   pad-blocks : (a : List ℕ) (s : List ℕ) (v : ℕ) → 0 < length s
       → absorbBlocks P a (cut rate (xorLast v (s ++ replicate (ceil rate (length s) * rate - length s) 0)))
       ≡ P (xorByte (absorbBytes P rate (record { value = a; position = 0 }) s .value) (rate - 1) v)
   unfolding late
-  pad-blocks a s v h = by (held pos h)
-    where
-      by : Held rate (length s) → absorbBlocks P a (cut rate (xorLast v (s ++ replicate (ceil rate (length s) * rate - length s) 0)))
-          ≡ P (xorByte (absorbBytes P rate (record { value = a; position = 0 }) s .value) (rate - 1) v)
-      by g =
-          let k : ℕ = ceil rate (length s) * rate - length s in
-          let e : length s + k ≡ suc (g .q) * rate = rw (g .is) (omega arith) in
-          let l : 0 < length (s ++ replicate k 0) = simp length-append (omega arith) in
-          sym (cut-blocks a (xorLast v (s ++ replicate k 0)) (simp length-xorLast l))
-          ∙ ap (λ (t : Sponge). P (t .value)) (last v (s ++ replicate k 0) (record { value = a; position = 0 }) l ∙ ap (λ (t : Sponge). late t v) (fill a s k g e))
+  pad-blocks a s v h =
+      let k : ℕ = ceil rate (length s) * rate - length s in
+      let l : 0 < length (s ++ replicate k 0) = simp length-append (omega arith) in
+      sym (cut-blocks a (xorLast v (s ++ replicate k 0)) (simp length-xorLast l))
+      ∙ ap (λ (t : Sponge). P (t .value)) (last v (s ++ replicate k 0) (record { value = a; position = 0 }) l ∙ ap (λ (t : Sponge). late t v) (fill-block a s h))
 
   -- the padding ends the published absorbing phase
   pub pad-absorbed : (m : List ℕ) (d : ℕ) → pad P rate (absorbBytes P rate fresh m) d ≡ record { value = absorbed P rate m d; position = 0 }

@@ -8,8 +8,9 @@ use native.Mathlib.Nat.{zero-add}
 use native.Mathlib.Omega.{arith}
 use lib.ListN.{length, drop, length-append}
 use lib.Seq.{drop-at}
+use lib.Dec.{eqb}
 use borrow.Author.Tests.{leb-true}
-use Rattle.sponge.specs.Transcript.{Call, Call.absorb, Call.customize, Call.finalize, Call.finish, Call.squeeze, Phase, Phase.absorbing, Phase.customizing, Phase.squeezing, phaseNumber, customizationOf, Transcript, freshTranscript, Customization, Customization.none, Customization.upTo, customizeStatus, Rules, statusOf, statusAt, outputOf, written, given, transcribe}
+use Rattle.sponge.specs.Transcript.{Call, Call.absorb, Call.customize, Call.finalize, Call.finish, Call.squeeze, Phase, Phase.absorbing, Phase.customizing, Phase.squeezing, phaseNumber, customizationOf, Transcript, freshTranscript, Customization, Customization.none, Customization.upTo, customizeStatus, Rules, outputMost, statusOf, statusAt, outputOf, written, given, transcribe}
 use Rattle.sponge.specs.Runs.{Machine, worked, bytesOut, perform, stateOf, runOf}
 use Rattle.sponge.specs.Streaming.{history, Streaming}
 use Rattle.sponge.proofs.FirstStatus.{first-zero}
@@ -40,11 +41,6 @@ customize-taken none c e = omega arith
 customize-taken (upTo most of) c e = leb-true _ _ (cond-zero _ _ e)
 
 module _ {A : Type 0} (U : Rules A) where
-  abbrev pub outputMost : Phase A → ℕ
-  outputMost absorbing = 0
-  outputMost (customizing c) = 0
-  outputMost (squeezing a) = U .outputLimit
-
   -- what the phase holds was taken
   abbrev pub Taken : Phase A → Type 0
   Taken absorbing = Unit {0}
@@ -54,7 +50,7 @@ module _ {A : Type 0} (U : Rules A) where
   -- the totals are within the limits, and nothing is squeezed before the close
   pub record Fits (t : Transcript A) : Type 0 where
     pub input-fits : length (t .absorbed) ≤ U .inputLimit
-    pub output-fits : t .squeezed ≤ outputMost (t .phase)
+    pub output-fits : t .squeezed ≤ outputMost U (t .phase)
     pub phase-taken : Taken (t .phase)
 
   pub fits-fresh : Fits freshTranscript
@@ -86,6 +82,10 @@ module _ {S A : Type 0} (U : Rules A) (M : Machine S A) where
     pub customized-fresh : M .customized (M .fresh) ≡ 0
     pub customized-absorb : (n : ℕ) (s : S) (p : List ℕ) → M .customized (M .absorb n s p) ≡ M .customized s
     pub customized-after : (n : ℕ) (s : S) → M .customized (M .after n s) ≡ M .customized s
+    pub limit-absorb : (n : ℕ) (s : S) (p : List ℕ) → M .limit (M .absorb n s p) ≡ M .limit s
+    pub limit-customize : (n : ℕ) (s : S) (p : List ℕ) → M .limit (M .customize n s p) ≡ M .limit s
+    pub limit-finalize : (n : ℕ) (s : S) (a : A) → M .limit (M .finalize n s a) ≡ U .outputLimit a
+    pub limit-after : (n : ℕ) (s : S) → M .limit (M .after n s) ≡ M .limit s
     pub customizes : Named (U .customization)
     pub after-zero : (s : S) → M .after 0 s ≡ s
     pub after-add : (m n : ℕ) (s : S) → M .after (m + n) s ≡ M .after n (M .after m s)
@@ -117,15 +117,32 @@ module _ {S A : Type 0} (U : Rules A) (M : Machine S A) (L : Laws U M) where
   customized-so f c (upTo most of) e l = owed most of e .customized-grows (length f) (M .absorb 0 (M .fresh) f) c ∙ rw (customized-none f) (zero-add (length c))
   customized-so f c none e l = absurd l
 
+  -- ---- the read limit is the transcript's, once closed, and no status before that depends on it
+
+  pub closed-limit : (f : List ℕ) (a : A) (n : ℕ) → M .limit (stateOf U M f (squeezing a) n) ≡ U .outputLimit a
+  closed-limit f a n = L .limit-after n _ ∙ L .limit-finalize (length f) _ a
+
+  any-limit : (h m k n l : ℕ) (c : Call A) → eqb h 1 ≡ false → statusOf U h m k n l c ≡ statusOf U h m k n 0 c
+  any-limit h m k n l (absorb p) e = refl
+  any-limit h m k n l (customize p) e = refl
+  any-limit h m k n l (finalize b) e = refl
+  any-limit h m k n l finish e = refl
+  any-limit h m k n l (squeeze j) e = rw e
+
   same-status : (f : List ℕ) (h : Phase A) (n : ℕ) (c : Call A) → Taken U h
-      → statusOf U (phaseNumber h) (length f) (M .customized (stateOf U M f h n)) n c ≡ statusOf U (phaseNumber h) (length f) (length (customizationOf h)) n c
-  same-status f absorbing n c t = ap (λ (k : ℕ). statusOf U 0 (length f) k n c) (customized-none f)
-  same-status f (customizing d) n c t = ap (λ (k : ℕ). statusOf U 2 (length f) k n c) (customized-so f d (U .customization) refl t)
+      → statusOf U (phaseNumber h) (length f) (M .customized (stateOf U M f h n)) n (M .limit (stateOf U M f h n)) c
+      ≡ statusOf U (phaseNumber h) (length f) (length (customizationOf h)) n (outputMost U h) c
+  same-status f absorbing n c t =
+      let l : ℕ = M .limit (stateOf U M f absorbing n) in
+      ap (λ (k : ℕ). statusOf U 0 (length f) k n l c) (customized-none f) ∙ any-limit 0 (length f) 0 n l c refl
+  same-status f (customizing d) n c t =
+      let l : ℕ = M .limit (stateOf U M f (customizing d) n) in
+      ap (λ (k : ℕ). statusOf U 2 (length f) k n l c) (customized-so f d (U .customization) refl t) ∙ any-limit 2 (length f) (length d) n l c refl
   same-status f (squeezing a) n (absorb p) t = refl
   same-status f (squeezing a) n (customize p) t = refl
   same-status f (squeezing a) n (finalize b) t = refl
   same-status f (squeezing a) n finish t = refl
-  same-status f (squeezing a) n (squeeze k) t = refl
+  same-status f (squeezing a) n (squeeze k) t = rw (closed-limit f a n)
 
   -- ---- one call
 

@@ -16,7 +16,8 @@ pub record Run (S : Type 0) : Type 0 where
   pub squeezed : ℕ
 
 -- what becomes of a state (each call that absorbs or closes is given how many bytes were absorbed before the customization phase), the bytes of
--- a squeeze of n bytes and the state after it, the customization bytes that a state has, and the test of status 5
+-- a squeeze of n bytes and the state after it, the customization bytes that a state has, the read limit that a finalize left in it, and the test
+-- of status 5
 pub record Machine (S A : Type 0) : Type 0 where
   pub fresh : S
   pub absorb : ℕ → S → List ℕ → S
@@ -26,6 +27,7 @@ pub record Machine (S A : Type 0) : Type 0 where
   pub squeeze : ℕ → S → List ℕ
   pub after : ℕ → S → S
   pub customized : S → ℕ
+  pub limit : S → ℕ
   pub reachable : Run S → Bool
 
 module _ {S A : Type 0} (U : Rules A) (M : Machine S A) where
@@ -49,7 +51,7 @@ module _ {S A : Type 0} (U : Rules A) (M : Machine S A) where
 
   -- the status: 5 before any other
   abbrev pub runStatus : Run S → Call A → ℕ
-  runStatus r c = cond (M .reachable r) (statusOf U (r .phase) (r .absorbed) (M .customized (r .state)) (r .squeezed) c) unreachable
+  runStatus r c = cond (M .reachable r) (statusOf U (r .phase) (r .absorbed) (M .customized (r .state)) (r .squeezed) (M .limit (r .state)) c) unreachable
 
   unfoldable pub perform : Run S → Call A → Reply (Run S)
   perform r c = reply (runStatus r c) (bytesOut r c) (worked r c) r

@@ -32,7 +32,7 @@ unreachable = 5
 abbrev pub outputTooLong : ℕ
 outputTooLong = 6
 
--- a call in one go asks for 0 bytes, or a presented tag is not 1 to 64 bytes long
+-- a call in one go asks for 0 bytes, a close fixes an output length of 0, or a presented tag is not 1 to 64 bytes long
 abbrev pub badLength : ℕ
 badLength = 7
 

@@ -50,14 +50,14 @@ pub data Customization (A : Type 0) : Type 0 where
   upTo : ℕ → (List ℕ → A) → Customization A
 
 -- a function: its published output, the status of a finalize's argument and of a piece of n bytes, each by itself (0 where it is
--- taken), its customization phase, and the two limits
+-- taken), its customization phase, and the two limits, that of reading by the finalize's argument
 pub record Rules (A : Type 0) : Type 0 where
   pub output : List ℕ → A → ℕ → List ℕ
   pub argument : A → ℕ
   pub piece : ℕ → ℕ
   pub customization : Customization A
   pub inputLimit : ℕ
-  pub outputLimit : ℕ
+  pub outputLimit : A → ℕ
 
 -- the same function, whose pieces have another status
 abbrev pub withPieces : {A : Type 0} → Rules A → (ℕ → ℕ) → Rules A
@@ -103,17 +103,23 @@ lent zero bytes old = bytes
 lent (suc n) bytes old = old
 
 module _ {A : Type 0} (U : Rules A) where
-  -- the status, by the phase and the three totals: 3, then that of the piece or the argument by itself, then 2, 4 or 6
-  abbrev pub statusOf : ℕ → ℕ → ℕ → ℕ → Call A → ℕ
-  statusOf phase absorbed customized squeezed (absorb p) = cond (eqb phase 0) (firstOf (U .piece (length p)) (cond (leb (absorbed + length p) (U .inputLimit)) done inputTooLong)) wrongPhase
-  statusOf phase absorbed customized squeezed (customize p) = cond (eqb phase 1) wrongPhase (customizeStatus (U .customization) (customized + length p))
-  statusOf phase absorbed customized squeezed (finalize a) = cond (eqb phase 0) (U .argument a) wrongPhase
-  statusOf phase absorbed customized squeezed finish = cond (eqb phase 2) (finishStatus (U .customization)) wrongPhase
-  statusOf phase absorbed customized squeezed (squeeze k) = cond (eqb phase 1) (cond (leb (squeezed + k) (U .outputLimit)) done outputTooLong) wrongPhase
+  -- the read limit, the most bytes of output: none before the close
+  abbrev pub outputMost : Phase A → ℕ
+  outputMost absorbing = 0
+  outputMost (customizing c) = 0
+  outputMost (squeezing a) = U .outputLimit a
+
+  -- the status, by the phase, the three totals and the read limit: 3, then that of the piece or the argument by itself, then 2, 4 or 6
+  abbrev pub statusOf : ℕ → ℕ → ℕ → ℕ → ℕ → Call A → ℕ
+  statusOf phase absorbed customized squeezed most (absorb p) = cond (eqb phase 0) (firstOf (U .piece (length p)) (cond (leb (absorbed + length p) (U .inputLimit)) done inputTooLong)) wrongPhase
+  statusOf phase absorbed customized squeezed most (customize p) = cond (eqb phase 1) wrongPhase (customizeStatus (U .customization) (customized + length p))
+  statusOf phase absorbed customized squeezed most (finalize a) = cond (eqb phase 0) (U .argument a) wrongPhase
+  statusOf phase absorbed customized squeezed most finish = cond (eqb phase 2) (finishStatus (U .customization)) wrongPhase
+  statusOf phase absorbed customized squeezed most (squeeze k) = cond (eqb phase 1) (cond (leb (squeezed + k) most) done outputTooLong) wrongPhase
 
   -- the transcript's answer
   abbrev pub statusAt : Transcript A → Call A → ℕ
-  statusAt t c = statusOf (phaseNumber (t .phase)) (length (t .absorbed)) (length (customizationOf (t .phase))) (t .squeezed) c
+  statusAt t c = statusOf (phaseNumber (t .phase)) (length (t .absorbed)) (length (customizationOf (t .phase))) (t .squeezed) (outputMost (t .phase)) c
 
   -- the first n bytes of the output, once closed
   abbrev pub outputOf : Transcript A → ℕ → List ℕ

@@ -46,7 +46,7 @@ add-total c = let h = passed (c .before) in omega (arith, h .squeezed-fits)
 
 too-long : (c : tie.Then2) (leaf : List ℕ) → let a = c .before .before .before .before .before .args in
     runStatus (rules (a .rate) (a .chaining)) (machine (a .rate) (a .chaining)) (seen (runWith (a .node .now) leaf (a .at))) (squeeze (length (a .out .now))) ≡ 6
-unfolding rules
+unfolding machine
 too-long c leaf =
     let a = c .before .before .before .before .before .args in
     let w = was (c .before .before) in
@@ -54,7 +54,7 @@ too-long c leaf =
 
 taken : (c : tie.Else2) (leaf : List ℕ) → let a = c .before .before .before .before .before .args in
     runStatus (rules (a .rate) (a .chaining)) (machine (a .rate) (a .chaining)) (seen (runWith (a .node .now) leaf (a .at))) (squeeze (length (a .out .now))) ≡ 0
-unfolding rules
+unfolding machine
 taken c leaf =
     let a = c .before .before .before .before .before .args in
     let w = was (c .before .before) in
