@@ -1,0 +1,9 @@
+pub mod Published
+pub mod Encodings
+pub mod Start
+pub mod Function
+pub mod Model
+pub mod Cshake
+pub mod Kmac
+pub mod Claims
+pub mod Family
