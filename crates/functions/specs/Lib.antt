@@ -1,2 +1,3 @@
 pub mod Functions
+pub mod Keyed
 pub mod Kt

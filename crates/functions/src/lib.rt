@@ -1,5 +1,6 @@
 // The functions that are the sponge, for programs that choose one while they run: a function is its numbers, and each call is `hasher`'s, given them.
-// `kt` does the same for KT.
+// `kt` does the same for KT, `keyed` for the functions of SP 800-185.
+pub mod keyed;
 pub mod kt;
 
 ghost use mathlib.Core.Path.{_≡_};
