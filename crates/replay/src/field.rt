@@ -1,7 +1,9 @@
 // The fields of a run by the numbers that op S gives them: phase, bytes absorbed, bytes squeezed, position; 6 is the permutations; 64 + i is lane i.
 // A run of KT has the position and the lanes of the final node there; 4 is the leaf's position, 5 the customization bytes, and 96 + i lane i of
-// the leaf.
+// the leaf. A run of KMAC has its output length as 7, one of cSHAKE as 8 the bit that says SHAKE.
 ghost use Prim.Native.Nat.{_<_};
+use functions::keyed::KeyedFunction;
+use functions::keyed::KeyedRun;
 use kangarootwelve::State;
 
 // The run with a field written; or the run as it was, where it has no such field or the field's type cannot hold the value.
@@ -10,9 +12,29 @@ pub struct Written {
     pub run: hasher::Run,
 }
 
+pub struct KeyedWritten {
+    pub is_done: bool,
+    pub keyed: KeyedRun,
+}
+
 pub struct KtWritten {
     pub is_done: bool,
     pub run: kangarootwelve::Run,
+}
+
+// What a run of SP 800-185 has beside the fields of every run: cSHAKE's the bit, KMAC's the output length.
+pub enum OwnField {
+    Bit,
+    Length,
+    Nothing,
+}
+
+pub fn own_field(function: KeyedFunction) -> OwnField {
+    match function {
+        KeyedFunction::CShake128 | KeyedFunction::CShake256 => OwnField::Bit,
+        KeyedFunction::Kmac128 | KeyedFunction::Kmac256 => OwnField::Length,
+        KeyedFunction::KmacXof128 | KeyedFunction::KmacXof256 => OwnField::Nothing,
+    }
 }
 
 fn refused(run: hasher::Run) -> Written {
@@ -51,6 +73,54 @@ pub fn write(run: hasher::Run, field: u8, value: u64) -> Written {
     Written {
         is_done: true,
         run: next,
+    }
+}
+
+fn keyed_written(is_done: bool, keyed: KeyedRun) -> KeyedWritten {
+    KeyedWritten { is_done, keyed }
+}
+
+// The fields of every run.
+fn write_common(keyed: KeyedRun, field: u8, value: u64) -> KeyedWritten {
+    let given = keyed.run;
+    let written = write(given, field, value);
+    let run = written.run;
+    let mut next = keyed;
+    next.run = run;
+    keyed_written(written.is_done, next)
+}
+
+fn write_with_bit(keyed: KeyedRun, field: u8, value: u64) -> KeyedWritten {
+    if field != 8 {
+        return write_common(keyed, field, value);
+    }
+    if 1 < value {
+        return keyed_written(false, keyed);
+    }
+    let mut next = keyed;
+    next.shake = value == 1;
+    keyed_written(true, next)
+}
+
+fn write_with_length(keyed: KeyedRun, field: u8, value: u64) -> KeyedWritten {
+    if field != 7 {
+        return write_common(keyed, field, value);
+    }
+    let mut next = keyed;
+    next.output_length = value;
+    keyed_written(true, next)
+}
+
+pub fn write_keyed(
+    function: KeyedFunction,
+    keyed: KeyedRun,
+    field: u8,
+    value: u64,
+) -> KeyedWritten {
+    match own_field(function) {
+        OwnField::Bit => write_with_bit(keyed, field, value),
+        OwnField::Length => write_with_length(keyed, field, value),
+        OwnField::Nothing => write_common(keyed, field, value),
     }
 }
 

@@ -3,46 +3,14 @@ ghost use Prim.Native.Nat.{_+_, _*_, _≤_};
 ghost use lib.ListN.{length};
 use crate::line;
 use crate::number;
+use crate::part::Part;
+use crate::part::part_at;
 use crate::session;
 use crate::session::MOST;
 use crate::session::Session;
 use kangarootwelve::HopMac128;
 use kangarootwelve::HopMac256;
 use kangarootwelve::Verdict;
-
-// Bytes of a payload after the four of their length, from `from` to `end`; and whether the payload has so many.
-struct Part {
-    fits: bool,
-    from: usize,
-    end: usize,
-}
-
-// The part whose length stands at `at`.
-fn part_at(payload: &[u8], at: usize) -> Part
-    ensures { λ r. ⌜ (r .from ≤ r .end) × (r .end ≤ length (now (payload .entry))) ⌝ }
-{
-    let none = Part {
-        fits: false,
-        from: 0,
-        end: 0,
-    };
-    if payload.len() < 4 {
-        return none;
-    }
-    if payload.len() - 4 < at {
-        return none;
-    }
-    let from = at + 4;
-    let n = number::of_four(payload, at) as usize;
-    if payload.len() - from < n {
-        return none;
-    }
-    Part {
-        fits: true,
-        from,
-        end: from + n,
-    }
-}
 
 // The tag of strength 0 or 1.
 fn tag_of(strength: u8, key: &[u8], message: &[u8], customization: &[u8], out: &mut [u8]) -> u8 {

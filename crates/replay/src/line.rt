@@ -1,7 +1,7 @@
 // The lines that are written, each put together in a text as long as the longest.
 //
 // The line of a run is two digits, numbers of a space and 16 digits each, and a line end: 29 numbers and 496 bytes, or of KT 56
-// numbers and 955 bytes.
+// numbers and 955 bytes; of SP 800-185 also what the run has beside.
 ghost use mathlib.Core.Path.{_≡_};
 ghost use mathlib.Core.Bool.{true};
 ghost use Prim.Native.Nat.{_+_, _*_, _<_, _≤_};
@@ -62,8 +62,8 @@ fn put_totals(text: &mut [u8], phase: u8, absorbed: u64, squeezed: u64)
     put_number(text, 1, squeezed);
 }
 
-// Writes the phase, the bytes absorbed, the bytes squeezed, the permutations, the position and the lanes.
-pub fn write_run(run: hasher::Run, text: &mut [u8]) -> bool
+// Puts the phase, the bytes absorbed, the bytes squeezed, the permutations, the position and the lanes.
+fn put_run(text: &mut [u8], run: hasher::Run)
     requires { ⌜ 496 ≤ length (now text) ⌝ }
 {
     let lanes = run.lanes;
@@ -72,7 +72,23 @@ pub fn write_run(run: hasher::Run, text: &mut [u8]) -> bool
     put_number(text, 3, run.position as u64);
     put_lanes(text, 4, lanes);
     put(text, 495, b'\n');
+}
+
+pub fn write_run(run: hasher::Run, text: &mut [u8]) -> bool
+    requires { ⌜ 496 ≤ length (now text) ⌝ }
+{
+    put_run(text, run);
     io::write_all(STDOUT_FILENO, &text[0..496])
+}
+
+// Writes the same with a total more, of so many digits, between the permutations and the position.
+pub fn write_run_with(run: hasher::Run, total: u64, digits: usize, text: &mut [u8]) -> bool
+    requires { ⌜ 496 ≤ length (now text) ⌝ }
+{
+    put_run(text, run);
+    io::write_all(STDOUT_FILENO, &text[0..54])
+        && io::print_hex(STDOUT_FILENO, total, digits)
+        && io::write_all(STDOUT_FILENO, &text[53..496])
 }
 
 // Puts the positions of a run of KT.

@@ -9,7 +9,8 @@
 //   C  a piece of KT's customization string, or of the          customize                            status
 //      station's name
 //   F  TurboSHAKE's domain byte, KT's customization string,     finalize                             status
-//      or the station's name; of FIPS 202 (n = 0)
+//      the station's name, or the 8 bytes of KMAC's output
+//      length; of FIPS 202, cSHAKE and KMACXOF (n = 0)
 //   E  (n = 0)                                                  finish, of KT or a day               status
 //   R                                                           squeeze                              status, the buffer
 //   S  1 byte field, 8 bytes value                              writes a field of the run in hand    set
@@ -22,21 +23,30 @@
 //      that string, message
 //   B  1 byte function, 4 bytes L, message                      L bytes of FIPS 202 in one go        as R
 //   P  1 byte n, 200 bytes                                      the last n rounds on this state      status, the 200 bytes
+//   n  1 byte function, 4 bytes length of the name or of the    start: where it is 0, its run        status
+//      key, the name or the key, 4 bytes length of the          is in hand
+//      customization string, that string
+//   M  1 byte function, 4 bytes L, then as n from the length    L bytes of SP 800-185 in one go      as R
+//      of the name or of the key on, message
 //   V  1 byte strength, 4 bytes length of the presented tag,    HopMAC's tag check                   status, yes or no
 //      the tag, then as H from the key on
 //
 // The functions are 0 TurboSHAKE128, 1 TurboSHAKE256, 2 KT128, 3 KT256, 4 the journal, whose run is a day, 5 SHA3-224, 6 SHA3-256, 7 SHA3-384,
-// 8 SHA3-512, 9 SHAKE128, 10 SHAKE256. The strengths are 0 for 128, 1 for 256.
+// 8 SHA3-512, 9 SHAKE128, 10 SHAKE256, 11 cSHAKE128, 12 cSHAKE256, 13 KMAC128, 14 KMAC256, 15 KMACXOF128, 16 KMACXOF256: those of SP 800-185,
+// from 11 on, begin with a start, not with N. The strengths are 0 for 128, 1 for 256.
 //
 // The input's end before a record ends the program. Any other record, or one that does not fit: `bad record`, and the end.
 mod by_number;
 mod field;
 mod hopmac;
 mod journal_run;
+mod keyed_one_go;
+mod keyed_run;
 mod kt_run;
 mod line;
 mod number;
 mod one_go;
+mod part;
 mod permutation;
 mod session;
 mod sponge_run;
@@ -56,6 +66,7 @@ fn answer_run(session: Session, op: u8, payload: &[u8], text: &mut [u8]) -> Sess
         Chosen::Sponge(function) => sponge_run::answer(session, function, op, payload, text),
         Chosen::Kt(function) => kt_run::answer(session, function, op, payload, text),
         Chosen::Journal => journal_run::answer(session, op, payload, text),
+        Chosen::Keyed(function) => keyed_run::answer(session, function, op, payload, text),
         Chosen::Nothing => session::bad_record(session),
     }
 }
@@ -69,6 +80,7 @@ fn answer_squeeze(session: Session, out: &mut [u8], text: &mut [u8]) -> Session
         Chosen::Sponge(function) => sponge_run::squeeze(session, function, out, text),
         Chosen::Kt(function) => kt_run::squeeze(session, function, out, text),
         Chosen::Journal => journal_run::squeeze(session, out, text),
+        Chosen::Keyed(function) => keyed_run::squeeze(session, function, out, text),
         Chosen::Nothing => session::bad_record(session),
     }
 }
@@ -79,6 +91,8 @@ fn answer(session: Session, op: u8, payload: &[u8], out: &mut [u8], text: &mut [
 {
     match op {
         b'N' => session::fresh(session, payload),
+        b'n' => keyed_run::start(session, payload),
+        b'M' => keyed_one_go::hash(session, payload, out, text),
         b'T' => one_go::with_domain(session, payload, out, text),
         b'B' => one_go::without_domain(session, payload, out, text),
         b'P' => permutation::permute(session, payload, out, text),

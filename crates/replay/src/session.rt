@@ -2,6 +2,8 @@
 use crate::by_number;
 use crate::by_number::Chosen;
 use functions::Function;
+use functions::keyed::KeyedFunction;
+use functions::keyed::KeyedRun;
 use functions::kt::KtFunction;
 use journal::Journal;
 use libc::STDOUT_FILENO;
@@ -10,11 +12,13 @@ use libc::STDOUT_FILENO;
 pub const MOST: u64 = 262144;
 
 // The function of the run in hand, where there is one: the run of its kind is in hand, the other is not used; a day's run is one of
-// KT. And whether a further record is read.
+// KT. A run of SP 800-185 has a bit or an output length beside. And whether a further record is read.
 pub struct Session {
     pub is_going: bool,
     pub chosen: Chosen,
     pub run: hasher::Run,
+    pub shake: bool,
+    pub output_length: u64,
     pub kt_run: kangarootwelve::Run,
 }
 
@@ -26,6 +30,8 @@ pub fn begin() -> Session {
         is_going: true,
         chosen: Chosen::Nothing,
         run,
+        shake: false,
+        output_length: 0,
         kt_run,
     }
 }
@@ -54,6 +60,8 @@ fn fresh_sponge(session: Session, function: Function) -> Session {
         is_going: is_written,
         chosen: Chosen::Sponge(function),
         run,
+        shake: false,
+        output_length: 0,
         kt_run,
     }
 }
@@ -65,6 +73,27 @@ fn fresh_kt(session: Session, chosen: Chosen, kt_run: kangarootwelve::Run) -> Se
         is_going: is_written,
         chosen,
         run,
+        shake: false,
+        output_length: 0,
+        kt_run,
+    }
+}
+
+// The run of a start that was done is in hand, and its line was written or not.
+pub fn begun(
+    session: Session,
+    function: KeyedFunction,
+    keyed: KeyedRun,
+    is_written: bool,
+) -> Session {
+    let run = keyed.run;
+    let kt_run = session.kt_run;
+    Session {
+        is_going: is_written,
+        chosen: Chosen::Keyed(function),
+        run,
+        shake: keyed.shake,
+        output_length: keyed.output_length,
         kt_run,
     }
 }
@@ -83,7 +112,7 @@ pub fn fresh(session: Session, payload: &[u8]) -> Session {
             )
         }
         Chosen::Journal => fresh_kt(session, Chosen::Journal, Journal::fresh().run),
-        Chosen::Nothing => bad_record(session),
+        Chosen::Keyed(_) | Chosen::Nothing => bad_record(session),
     }
 }
 
