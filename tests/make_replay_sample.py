@@ -2,12 +2,14 @@
 """Writes crates/replay/stdin, a short list of calls, and crates/replay/stdout, the lines that the program `replay` must answer.
 
 Each status is written out here, by document 01's table and requests Q-2, Q-5 and Q-10, and so are the small numbers of permutations; those at
-the limits are the formula's, the bytes and the lanes the second program's.
+the limits are the formula's, the bytes and the lanes the second program's. sp800_185_sample.py has the calls of request Q-14.
 """
 from pathlib import Path
 
 import reference
+import sp800_185_sample
 from permutation_formula import kt_open, sponge_closed, sponge_open
+from sample_lines import counted, field, record, run_line
 
 CRATE = Path(__file__).resolve().parent.parent / "crates/replay"
 LIMIT, READ_LIMIT, CUSTOM_LIMIT = 17_179_869_183, 4_294_967_295, 16_777_215
@@ -37,18 +39,6 @@ DAY_DIGEST = reference.kt128(DAY, STATION, 37).hex()
 LAST_NODE = (CHUNK + 8 + 2_097_150 * 32 - 1) % 168 + 1
 # The final node and the leaf of a message of no bytes once one byte is left of C: 16,777,214 bytes of S, so that chunk 2,047 lacks two.
 CUSTOM_NODE, CUSTOM_LEAF = (CHUNK + 8 + 2_046 * 32 - 1) % 168 + 1, (CHUNK - 2 - 1) % 168 + 1
-
-
-def counted(data, n=None):
-    return (len(data) if n is None else n).to_bytes(4, "big") + data
-
-
-def record(op, payload=b"", n=None):
-    return op.encode() + counted(payload, n)
-
-
-def field(number, value):
-    return record("S", bytes([number]) + value.to_bytes(8, "big"))
 
 
 def one_go(function, domain, size, message):
@@ -93,10 +83,6 @@ def lanes_closed(node, domain):
     """The lanes after the final node, whose last block has room for the domain byte before its last byte."""
     padded = node + bytes([domain]) + bytes(-len(node) % 168 - 2) + b"\x80"
     return reference.keccak_p(lanes_after(padded), 12)
-
-
-def run_line(phase, *numbers):
-    return f"{phase:02x} " + " ".join(f"{v:016x}" for v in numbers)
 
 
 LONG_CUSTOM = reference.ptn(65_536)
@@ -351,6 +337,7 @@ SAMPLE = [
     (rounds(24, bytes(200)), "0 " + permuted(24, bytes(200))),
     (rounds(25, MESSAGE[:200]), "16 " + MESSAGE[:200].hex()),
     (rounds(255, bytes(200)), "16 " + bytes(200).hex()),
+    *sp800_185_sample.SAMPLE,
     (record("Z"), "bad record"),
     # nothing is answered after that
     (record("N", b"\0"), None),

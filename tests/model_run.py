@@ -1,8 +1,8 @@
 """Runs with their fields: what each call answers and does to them.
 
 `Run`, `KtRun` and `DayRun` also answer for a run whose fields were overwritten, of which the book (transcript.py) says nothing. `Run` is that
-of every function that is the sponge alone (sponge_functions.py). Written from documents 01 and 02 and the draft, never from the Rattle
-sources.
+of every function that is the sponge alone (sponge_functions.py); started_run.py has the run that begins with a start. Written from documents
+01 and 02 and the draft, never from the Rattle sources.
 """
 import permutation_formula
 import reference
@@ -106,8 +106,15 @@ class Run(Limits):
     def totals(self):
         return self.absorbed, self.squeezed
 
+    def after_count(self):
+        """What a dump has behind the permutations."""
+        return ()
+
     def sponges(self):
         return (self.node,)
+
+    def most_read(self):
+        return read_limit(self.function, self.SQUEEZE_LIMIT)
 
     def argument_status(self, domain):
         return domain_status(self.function, domain)
@@ -122,13 +129,18 @@ class Run(Limits):
             return permutation_formula.sponge_open(self.rate, self.absorbed)
         return permutation_formula.sponge_closed(self.rate, self.absorbed, self.squeezed)
 
+    def counts_due(self):
+        """Every number of permutations that goes with the phase and the totals: one, for a run that was fresh."""
+        due = self.permutations_due()
+        return range(due, due + 1)
+
     def is_reached(self):
         """Whether calls from a fresh run reach this phase, these totals, positions and permutations together. The lanes are not looked at."""
-        if self.absorbed > self.ABSORB_LIMIT or self.squeezed > read_limit(self.function, self.SQUEEZE_LIMIT):
+        if self.absorbed > self.ABSORB_LIMIT or self.squeezed > self.most_read():
             return False
         if self.phase not in self.PHASES or (self.phase != FINALIZED and self.squeezed):
             return False
-        if self.permutations != self.permutations_due():
+        if self.permutations not in self.counts_due():
             return False
         return tuple(sponge.position for sponge in self.sponges()) == self.positions_due()
 
@@ -157,7 +169,7 @@ class Run(Limits):
     def squeeze(self, size):
         """The status, and the bytes that a done squeeze gives."""
         status = self.refusal(FINALIZED)
-        if status == DONE and self.squeezed + size > read_limit(self.function, self.SQUEEZE_LIMIT):
+        if status == DONE and self.squeezed + size > self.most_read():
             status = TOO_MUCH
         if status != DONE:
             return status, None

@@ -1,15 +1,19 @@
-"""Reads NIST's response files for FIPS 202, kept in tests/vectors/nist/ as published, compressed with xz.
+"""Reads NIST's response files for FIPS 202, kept in tests/vectors/nist/ as published, compressed with xz; and NIST's sample values for SP
+800-185, in tests/vectors/sp800-185-samples.json, which says what they are.
 
-A line of a file is empty, a comment, or `name = value`; some stand in brackets, before the vectors that they are true of. Lengths are in
+A line of a response file is empty, a comment, or `name = value`; some stand in brackets, before the vectors that they are true of. Lengths are in
 bits. A line of no known form, or a value that does not fit its vector, is an error: nothing is passed over.
 """
+import json
 import lzma
 import re
 from pathlib import Path
 from typing import NamedTuple
 
+from sp800_185 import STARTED
 from sponge_functions import FIPS202
 
+SAMPLES = Path(__file__).resolve().parent / "vectors/sp800-185-samples.json"
 FOLDER = Path(__file__).resolve().parent / "vectors/nist"
 ASSIGNMENT = re.compile(r"(\[?)([A-Z][\w ()]*?) = (\w+)(\]?)")
 REMARK = "[Tested for Output of byte-oriented messages]"
@@ -99,3 +103,27 @@ def chain(file):
     if seed:  # SHA3
         return Chain(function_of(file), bytes.fromhex(seed), len(values[0]), len(values[0]), values)
     return Chain(function_of(file), bytes.fromhex(found[0]["Msg"]), *(whole_bytes(file, bits) for bits in lengths), values)
+
+
+class Sample(NamedTuple):
+    """A sample value of SP 800-185."""
+
+    function: int
+    first: bytes  # N, or the key
+    custom: bytes
+    message: bytes
+    value: bytes
+
+
+def samples():
+    """Strings are in hex, L is in bytes and the length of the value."""
+    numbers = {function.name: number for number, function in STARTED.items()}
+    for entry in json.loads(SAMPLES.read_text())["vectors"]:
+        number = numbers[entry["function"]]
+        first = "K" if STARTED[number].is_keyed else "N"
+        if set(entry) != {"function", first, "X", "S", "L", "expected"}:
+            raise ValueError(f"no sample value: {sorted(entry)}")
+        sample = Sample(number, *(bytes.fromhex(entry[name]) for name in (first, "S", "X", "expected")))
+        if len(sample.value) != entry["L"]:
+            raise ValueError(f"a value of {len(sample.value)} bytes for an L of {entry['L']}")
+        yield sample

@@ -4,6 +4,7 @@ permutation answers.
 Written from documents 01 and 02 and the draft, as transcript.py is, which says the statuses that calls on runs share.
 """
 import reference
+from started_transcript import start_status
 from transcript import BAD_SIZE, CHAINING, DONE, TOO_LONG, TOO_MUCH, Limits, custom_status, domain_status, read_limit
 
 HOPMAC = {0: reference.hopmac128, 1: reference.hopmac256}  # by the number of the strength
@@ -48,6 +49,18 @@ def permutation(rounds, state):
 def kt(rate, message, custom, size):
     status = kt_status(len(message), len(custom), size)
     return status, reference.kangarootwelve(rate, CHAINING[rate], message, custom, size) if status == DONE else None
+
+
+def started_status(function, first_size, custom_size, message_size, size):
+    """The status of a call of SP 800-185 in one go: 2, for the message or the key, 4, 7, 6, in this order."""
+    status = lengths_status(message_size, size)
+    return status if status == TOO_LONG else start_status(function, first_size, custom_size) or status
+
+
+def started(function, first, custom, message, size):
+    """`first` is N of cSHAKE, or the key. Plain KMAC's output length is what is asked."""
+    status = started_status(function, len(first), len(custom), len(message), size)
+    return status, function.output(first, custom, message, size, size) if status == DONE else None
 
 
 def hopmac_status(key_size, message_size, custom_size, size):

@@ -1,9 +1,9 @@
 #!/usr/bin/env python3
-"""The independent second program: Keccak-p[1600], TurboSHAKE, SHA-3, SHAKE, KangarooTwelve, HopMAC and a day's message in Python, from the
-papers alone.
+"""The independent second program: Keccak-p[1600], TurboSHAKE, SHA-3, SHAKE, cSHAKE, KMAC, KangarooTwelve, HopMAC and a day's message in
+Python, from the papers alone.
 
-Written from FIPS 202 (sections 3.2 to 3.4, 5 and 6), draft-irtf-cfrg-kangarootwelve-16 (sections 2 to 4) and request Q-1, never from the
-Rattle sources. Both tables are computed from the standard's own rules. Standard library only.
+Written from FIPS 202 (sections 3.2 to 3.4, 5 and 6), SP 800-185 (sections 2.3, 3 and 4), draft-irtf-cfrg-kangarootwelve-16 (sections 2 to 4)
+and request Q-1, never from the Rattle sources. Both tables are computed from the standard's own rules. Standard library only.
 
   reference.py permutation     what the program `permutation` writes
 """
@@ -123,8 +123,71 @@ def shake(strength, message, length):
     return keccak(2 * strength, message, "1111", length)
 
 
+def least_bytes(x):
+    """The bytes of x, the most significant first, as few as it has but at least one."""
+    digits = bytes([x % 256])
+    while x >= 256:
+        x //= 256
+        digits = bytes([x % 256]) + digits
+    return digits
+
+
+def left_encode(x):
+    """SP 800-185, section 2.3.1: the bytes of x, and before them their number. Of 0: 01 00."""
+    return bytes([len(least_bytes(x))]) + least_bytes(x)
+
+
+def right_encode(x):
+    """The same with the number after the bytes. Of 0: 00 01, where length_encode has 00 alone."""
+    return least_bytes(x) + bytes([len(least_bytes(x))])
+
+
+def encode_string(s):
+    """Section 2.3.2: the length in bits, then the string."""
+    return left_encode(8 * len(s)) + bytes(s)
+
+
+def bytepad(x, w):
+    """Section 2.3.3: w, then x, and zeros up to a multiple of w bytes; none where it is one."""
+    padded = left_encode(w) + bytes(x)
+    while len(padded) % w:
+        padded += b"\0"
+    return padded
+
+
+def rate_of(strength):
+    return 200 - 2 * strength // 8
+
+
+def cshake_prefix(rate, name, custom):
+    """What cSHAKE has before the message. It is none where N and S are both empty, for that is SHAKE."""
+    return bytepad(encode_string(name) + encode_string(custom), rate) if name or custom else b""
+
+
+def cshake(strength, message, length, name, custom):
+    """Section 3.3: cSHAKE128 and cSHAKE256 of X, L, N and S."""
+    if not name and not custom:
+        return shake(strength, message, length)
+    return keccak(2 * strength, cshake_prefix(rate_of(strength), name, custom) + bytes(message), "00", length)
+
+
+def kmac_message(rate, key, message, told):
+    """The message of KMAC's cSHAKE: the key, X, and the number of bits that is told of the output."""
+    return bytepad(encode_string(key), rate) + bytes(message) + right_encode(told)
+
+
+def kmac(strength, key, message, length, custom):
+    """Section 4.3: KMAC128 and KMAC256 of K, X, L and S."""
+    return cshake(strength, kmac_message(rate_of(strength), key, message, 8 * length), length, b"KMAC", custom)
+
+
+def kmacxof(strength, key, message, length, custom):
+    """Section 4.3.1: the same with 0 told, whatever the length."""
+    return cshake(strength, kmac_message(rate_of(strength), key, message, 0), length, b"KMAC", custom)
+
+
 def length_encode(x):
-    """Section 3.3: the bytes of x, the most significant first and no leading zero, then their number."""
+    """The draft, section 3.3: the bytes of x, the most significant first and no leading zero, then their number."""
     digits = b""
     while x > 0:
         digits = bytes([x % 256]) + digits

@@ -1,8 +1,10 @@
 """Writes lists of calls for the program `replay` and the lines that it must answer; runs it and compares.
 
 A record is one byte op, four bytes n, and n bytes of payload (none for R), numbers most significant first. The program does one call
-for each and writes one line. What the line must say is for transcript.py, model_run.py and one_go.py to decide.
+for each and writes one line. What the line must say is for transcript.py, model_run.py and one_go.py to decide. The program is target/bin/replay,
+or the one that the variable REPLAY names.
 """
+import os
 import subprocess
 import tempfile
 import unittest
@@ -13,15 +15,17 @@ import model_run
 import one_go
 import transcript
 from sponge_functions import FIPS202, SPONGE, TURBOSHAKE
-from transcript import KT, NOT_REACHED, RATES
+from transcript import KT, NOT_REACHED
 
-PROGRAM = Path(__file__).resolve().parent.parent / "target/bin/replay"
+PROGRAM = Path(os.environ.get("REPLAY") or Path(__file__).resolve().parent.parent / "target/bin/replay")
 SEED = 20  # of every random list
 MOST = 262_144  # the length of the program's buffers
 BEFORE = b"\xa5"  # each byte of the buffer that a squeeze is given
-# The fields that S writes. Lane i is 64 + i; the leaf's 96 + i. Only a run of KT or a day has a leaf and customization bytes.
-PHASE, ABSORBED, SQUEEZED, POSITION, LEAF_POSITION, CUSTOMIZED, PERMUTATIONS, LANES, LEAF_LANES = 0, 1, 2, 3, 4, 5, 6, 64, 96
+# The fields that S writes. Lane i is 64 + i; the leaf's 96 + i. Only a run of KT or a day has a leaf and customization bytes, only one of plain
+# KMAC an output length, only one of cSHAKE the bit that says SHAKE.
+PHASE, ABSORBED, SQUEEZED, POSITION, LEAF_POSITION, CUSTOMIZED, PERMUTATIONS, OUTPUT_LENGTH, SHAKE_BIT, LANES, LEAF_LANES = *range(9), 64, 96
 NAMES = {PHASE: "phase", ABSORBED: "absorbed", SQUEEZED: "squeezed", CUSTOMIZED: "customized", PERMUTATIONS: "permutations"}
+NAMES |= {OUTPUT_LENGTH: "output_length", SHAKE_BIT: "is_shake"}
 
 
 def counted(data, n=None):
@@ -79,16 +83,17 @@ def bytes_line(status, out, size):
 
 
 def numbers_line(phase, *numbers):
-    return f"{phase:02x} " + " ".join([f"{v:016x}" for v in numbers])
+    """The phase is a byte, and so is a bit; every other number has 64 bits."""
+    return f"{phase:02x} " + " ".join([f"{v:02x}" if isinstance(v, bool) else f"{v:016x}" for v in numbers])
 
 
 def totals_of(one):
-    """What a book and a run both have: phase, totals, permutations."""
-    return one.phase, *one.totals(), one.permutations
+    """What a book and a run both have: phase, totals, permutations, and what a run that begins with a start has behind them."""
+    return one.phase, *one.totals(), one.permutations, *one.after_count()
 
 
 def dump_line(run):
-    """Phase, totals, permutations, positions, lanes."""
+    """Phase, totals, permutations, output length or bit, positions, lanes."""
     sponges = run.sponges()
     return numbers_line(*totals_of(run), *(s.position for s in sponges), *(lane for s in sponges for lane in s.lanes))
 
@@ -120,7 +125,7 @@ class Calls:
 
     @property
     def rate(self):
-        return RATES[self.function]
+        return self.run.rate
 
     def add(self, what, data, *wanted):
         self.records += data
@@ -158,14 +163,16 @@ class Calls:
         self.call(f"A of {len(piece)} bytes", record("A", piece), *map(str, self.asked("absorb", piece)))
 
     def finalize(self, argument=None):
+        what, payload = self.closing(argument)
+        self.call(what, record("F", payload), *map(str, self.asked("finalize", argument)))
+
+    def closing(self, argument):
         """With a domain byte, with KT's customization string, with the name of a day's station, or, in FIPS 202, with nothing."""
         if self.function in FIPS202:
-            what, payload = "F", b""
-        elif self.function in TURBOSHAKE:
-            what, payload = f"F {argument:02x}", bytes([argument])
-        else:
-            what, payload = f"F with C of {len(argument)} bytes", argument
-        self.call(what, record("F", payload), *map(str, self.asked("finalize", argument)))
+            return "F", b""
+        if self.function in TURBOSHAKE:
+            return f"F {argument:02x}", bytes([argument])
+        return f"F with C of {len(argument)} bytes", argument
 
     def customize(self, piece):
         self.call(f"C of {len(piece)} bytes", record("C", piece), *map(str, self.asked("customize", piece)))
@@ -230,13 +237,16 @@ class Calls:
     def rebuild(self, order):
         """A fresh run, every field of which is written as the run in hand has it, is that run: its book goes on."""
         book, run = self.book, self.run
-        self.fresh(self.function)
+        self.begin_again()
         fields = [(field, getattr(run, name)) for field, name in NAMES.items() if hasattr(run, name)]
         for sponge, position, lanes in zip(run.sponges(), (POSITION, LEAF_POSITION), (LANES, LEAF_LANES)):
             fields += [(position, sponge.position), *((lanes + i, v) for i, v in enumerate(sponge.lanes))]
         for field, value in order(fields):
             self.set(field, value)
         self.book = book
+
+    def begin_again(self):
+        self.fresh(self.function)
 
     def faults(self):
         """Runs the program, and says in a line each what is wrong, the first few."""
@@ -254,7 +264,7 @@ class Calls:
     def before(self, number):
         """The records since the last fresh run, shortly."""
         whats = dict((n, what) for n, what, _ in self.expected[: 2 * number + 2])
-        since = max((n for n in range(number) if whats[n][0] == "N"), default=0)
+        since = max((n for n in range(number) if whats[n][0] in "Nn"), default=0)
         return "after " + "; ".join([whats[since], *(whats[n] for n in range(max(since + 1, number - 8), number))])
 
 

@@ -2,8 +2,8 @@
 
 `Transcript`, `KtTranscript` and `DayTranscript` get the arguments of each call alone, and say its status and its bytes, and how many
 permutations the definition takes for the bytes so far (request Q-10). `Transcript` is that of every function that is the sponge alone
-(sponge_functions.py). model_run.py has runs with their fields, one_go.py the calls in one go. Written from documents 01 and 02 and the
-draft, never from the Rattle sources.
+(sponge_functions.py). started_transcript.py has the book that begins with a start, model_run.py has runs with their fields, one_go.py the
+calls in one go. Written from documents 01 and 02 and the draft, never from the Rattle sources.
 
 A KT run and a day have a customization phase (request Q-2): `customize` takes a piece of C, `finish` closes the run with the C so taken,
 `finalize` closes a run in the message phase with a whole C.
@@ -60,6 +60,13 @@ class Transcript(Limits):
     def totals(self):
         return len(self.fed), self.read
 
+    def after_count(self):
+        """What the run has behind the permutations: none of these but the runs that begin with a start."""
+        return ()
+
+    def most_read(self):
+        return read_limit(self.function, self.SQUEEZE_LIMIT)
+
     @property
     def permutations(self):
         """Counted while the joined bytes are hashed, never by a formula: the runs' answer 5 has that one, and is held to this.
@@ -104,7 +111,7 @@ class Transcript(Limits):
         """The status, and the bytes that a done squeeze gives."""
         if self.phase != FINALIZED:
             return WRONG_PHASE, None
-        if self.read + size > read_limit(self.function, self.SQUEEZE_LIMIT):
+        if self.read + size > self.most_read():
             return TOO_MUCH, None
         start, self.read = self.read, self.read + size
         return DONE, self.first(self.read)[start:]
