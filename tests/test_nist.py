@@ -1,4 +1,5 @@
-"""The program `replay` gives all 4,642 values of NIST's response files for FIPS 202: in one go, in pieces, and in the Monte Carlo chains.
+"""The program `replay` gives all 4,642 values of NIST's response files for FIPS 202, in one go, in pieces, and in the Monte Carlo chains; and
+NIST's 16 sample values for SP 800-185, in one go and in pieces.
 
 Needs target/bin/replay, which `rt check` and `rt ci` leave.
 """
@@ -9,7 +10,9 @@ import nist
 import sponge_lists
 import third_program
 from replay import SEED, Held, fips_record, record
+from sp800_185 import KMAC, STARTED
 from sponge_functions import FIPS202, SHA3
+from started_calls import length_record, start_record, started_record
 
 # The number of values in each file. NIST's LongMsg and Monte files have 100 each, and ShortMsg all lengths up to one block, or two of SHAKE's.
 SHORT = {"SHA3_224": 145, "SHA3_256": 137, "SHA3_384": 105, "SHA3_512": 73, "SHAKE128": 337, "SHAKE256": 273}
@@ -99,6 +102,30 @@ class Monte(Held):
                 self.assertEqual(ends, [f"0 {value.hex()}" for value in chain.values])
                 held += len(ends)
         self.assertEqual(held, 600)
+
+
+class Samples(Held):
+    def setUp(self):
+        self.samples = list(nist.samples())
+        self.assertEqual(len(self.samples), 16)
+
+    def test_in_one_go(self):
+        due = [(started_record(n, first, custom, len(value), message), f"0 {value.hex()}") for n, first, custom, message, value in self.samples]
+        self.hold_lines(due)
+
+    def test_in_pieces(self):
+        """The whole and then nothing, byte by byte, and in 20 ways from a fixed seed. Plain KMAC is closed with the length of the value."""
+        source, due = random.Random(SEED), []
+        for function, first, custom, message, value in self.samples:
+            rate = STARTED[function].rate
+            ways = [((message, b""), (value, b"")), ([bytes([byte]) for byte in message], [bytes([byte]) for byte in value])]
+            ways += [(sponge_lists.cut(source, rate, message), sponge_lists.cut(source, rate, value)) for _ in range(20)]
+            for pieces, reads in ways:
+                due.append((start_record(function, first, custom), "0"))
+                due += [(record("A", piece), "0") for piece in pieces]
+                due.append((length_record(len(value)) if function in KMAC else record("F"), "0"))
+                due += [(record("R", n=len(part)), f"0 {part.hex()}") for part in reads]
+        self.hold_lines(due)
 
 
 if __name__ == "__main__":

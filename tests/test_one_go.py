@@ -4,6 +4,8 @@ import unittest
 import model_run
 import one_go
 import reference
+import started_run
+from sp800_185 import CSHAKE, KEYED, KMAC, STARTED
 from sponge_functions import FIPS202, SHA3, SPONGE, TURBOSHAKE
 from transcript import KT
 
@@ -67,6 +69,23 @@ class OneGo(unittest.TestCase):
         self.assertEqual([one_go.verify_status(most, most, long, size) for size in (0, 1, 64, 65)], [4, 4, 4, 4])
         self.assertEqual([one_go.verify_status(most, 0, taken, size) for size in (0, 1, 64, 65, output + 1)], [7, 0, 0, 7, 7])
 
+    def test_order_of_the_started_refusals(self):
+        """2, for the message or a key, 4, for N or S, 7, 6. A key may be longer than S; N may not."""
+        most, over, output = self.MESSAGE, self.MESSAGE + 1, self.OUTPUT
+        long, taken = self.CUSTOM + 1, self.CUSTOM
+        asked = (0, output + 1, 1, output)
+        for number, function in STARTED.items():
+            first = most if number in KEYED else taken
+
+            def statuses(first_size, custom_size, message_size):
+                return [one_go.started_status(function, first_size, custom_size, message_size, size) for size in asked]
+
+            self.assertEqual([statuses(first, long, over), statuses(0, 0, over)], [[2] * 4] * 2)
+            self.assertEqual(statuses(first, long, most), [4] * 4)
+            self.assertEqual(statuses(first, taken, most), [7, 6, 0, 0])
+            self.assertEqual(statuses(long, taken, most), [4] * 4 if number in CSHAKE else [7, 6, 0, 0])
+            self.assertEqual(statuses(over, long, most), [4] * 4 if number in CSHAKE else [2] * 4)
+
     def test_tag_check(self):
         for strength, function in enumerate((reference.hopmac128, reference.hopmac256)):
             tag = function(b"key", b"message", b"abc", 65)
@@ -88,6 +107,15 @@ class OneGo(unittest.TestCase):
                 run.finalize(closing)
                 asked = function.digest or 300
                 self.assertEqual(one_go.sponge(function, reference.ptn(size), closing, asked), run.squeeze(asked), function.name)
+
+    def test_same_as_the_started_run(self):
+        """Plain KMAC's output length is what is asked."""
+        for number, function in STARTED.items():
+            for first, custom, size in ((b"", b"", 0), (b"a", b"", 1), (bytes(function.rate - 5), b"abc", 500), (b"ab", bytes(300), function.rate)):
+                run = started_run.run_of(number, first, custom)
+                run.absorb(reference.ptn(size))
+                run.finalize(300 if number in KMAC else None)
+                self.assertEqual(one_go.started(function, first, custom, reference.ptn(size), 300), run.squeeze(300), function.name)
 
     def test_same_as_the_kt_run(self):
         for function, rate in KT.items():

@@ -3,7 +3,9 @@ import itertools
 import unittest
 
 from model_run import DayRun, KtRun, Run, Sponge
+from sp800_185 import Cshake, Kmac, Kmacxof
 from sponge_functions import Function
+from started_run import StartedRun
 from transcript import FINALIZED
 
 
@@ -12,6 +14,9 @@ class SmallSponge(Sponge):
 
     def permuted_lanes(self):
         return self.lanes
+
+    def mix(self, start, part):
+        pass
 
 
 class SmallRun(Run):
@@ -61,10 +66,55 @@ class SmallDayRun(DayRun, SmallKtRun):
     EVENT_LIMIT = 5
 
 
+class SmallStartedRun(SmallRun, StartedRun):
+    """One that begins with a start; blocks of 8 bytes. Without strings it is the first that a start gives."""
+
+    ABSORB_LIMIT, SQUEEZE_LIMIT = 9, 9
+    STRING_LIMIT, KEY_LIMIT = 7, 9
+
+    def __init__(self, first=b"", custom=b""):
+        StartedRun.__init__(self, self.FUNCTION, first, custom)
+
+    @classmethod
+    def starts(cls):
+        """All runs that a start within the limits gives."""
+        most = cls.KEY_LIMIT if cls.FUNCTION.is_keyed else cls.STRING_LIMIT
+        return [cls(bytes(first), bytes(custom)) for first in range(most + 1) for custom in range(cls.STRING_LIMIT + 1)]
+
+    def key(self):
+        return self.phase, *self.totals(), *self.after_count(), self.permutations, self.node.position
+
+    def set(self, phase, absorbed, squeezed, *rest):
+        if self.function.has_length:
+            self.output_length, *rest = rest
+        if self.function.has_bit:
+            self.is_shake, *rest = rest
+        return super().set(phase, absorbed, squeezed, *rest)
+
+
+class SmallCshakeRun(SmallStartedRun):
+    """The prefix: 01 08, then N and S with two bytes before each, together 7 to 20 bytes, or nothing."""
+
+    FUNCTION = Cshake("small cSHAKE", 8, range(1, 4))
+
+
+class SmallKmacRun(SmallStartedRun):
+    """10 to 17 bytes with S, and 4 to 13 with the key, in blocks of their own."""
+
+    FUNCTION = Kmac("small KMAC", 8, range(3, 6))
+
+
+class SmallKmacxofRun(SmallStartedRun):
+    FUNCTION = Kmacxof("small KMACXOF", 8, range(3, 6))
+
+
 class Reached(unittest.TestCase):
     def reached_from_fresh(self, kind, calls):
         """All that these calls reach, and any piece and any read, by the name of the call and its arguments."""
-        reached, left = set(), [kind().key()]
+        return self.reached_from([kind()], kind, calls)
+
+    def reached_from(self, beginnings, kind, calls):
+        reached, left = set(), [run.key() for run in beginnings]
         while left:
             key = left.pop()
             if key in reached:
@@ -110,6 +160,34 @@ class Reached(unittest.TestCase):
             self.assertEqual(len(reached), 15 + 15 * 14 + 15 * 7 * 14)
             closed = {key for key in reached if key[0] == FINALIZED}
             self.assertEqual({key for key in self.reached_from_fresh(kind, wholes) if key[0] == FINALIZED}, closed)
+
+    def near_starts(self, run, keys):
+        """Each of these keys with every count, and with every position, and the right ones of phases and totals that no call reaches."""
+        for told in keys:
+            run.set(*told, 0, 0)
+            due, (place,) = run.permutations_due(), run.positions_due()
+            yield from ((*told, count, place) for count in (*range(15), 1 << 32, (1 << 64) - 1))
+            yield from ((*told, count, position) for count in (due, due + 1) for position in range(11))
+
+    def test_by_every_call_from_a_start(self):
+        """From every start within the limits: of cSHAKE with the bit and without, of plain KMAC with every output length."""
+        lengths = range(11)  # up to one past the read limit
+        for kind, closes, behind in (
+            (SmallCshakeRun, [("finalize",)], [(False,), (True,)]),
+            (SmallKmacRun, [("finalize", length) for length in lengths], [(length,) for length in lengths]),
+            (SmallKmacxofRun, [("finalize",)], [()]),
+        ):
+            starts = kind.starts()
+            prefixes = {run.permutations + 1 for run in starts if run.has_prefix()}
+            self.assertEqual(prefixes, set(kind.FUNCTION.blocks), "the test itself is wrong")
+            reached = self.reached_from(starts, kind, closes)
+            run = kind()
+            keys = [(*told, *more) for told in itertools.product(range(4), range(12), range(12)) for more in behind]
+            self.assertEqual({key for key in self.near_starts(run, keys) if run.set(*key).is_reached()}, reached)
+            most = kind.SQUEEZE_LIMIT
+            # what is open, and what is closed and read so far: of plain KMAC up to each length
+            states = 1 + (sum(length + 1 for length in range(1, most + 1)) if kind is SmallKmacRun else most + 1)
+            self.assertEqual(len(reached), 10 * states * (3 + (kind is SmallCshakeRun)))
 
 
 if __name__ == "__main__":

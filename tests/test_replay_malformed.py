@@ -4,28 +4,13 @@ Needs target/bin/replay, which `rt check` and `rt ci` leave.
 """
 import unittest
 
+from malformed import BIG, FAR, PAST, Refused
 from replay import CUSTOMIZED, LANES, LEAF_LANES, LEAF_POSITION, MOST, PERMUTATIONS, PHASE
 from replay import fips_record, hopmac_record, kt_record, one_go_record, permutation_record, play, record, set_record, verify_record
 from sponge_functions import FIPS202, SPONGE, TURBOSHAKE
 
-BIG = (1 << 64) - 1
-FAR = MOST + 1, 1 << 24, (1 << 32) - 1  # more than the buffers hold
-PAST = 9, MOST - 13, MOST, (1 << 31) + 3, (1 << 32) - 13, (1 << 32) - 4, *FAR  # more than the rest of a short payload
 
-
-class Malformed(unittest.TestCase):
-    def refused(self, before, data):
-        """`before` is a list of records with their lines; nothing after `data` may be answered."""
-        records = b"".join(r for r, _ in before) + data
-        lines, status = play(records)
-        self.assertEqual(lines, [line for _, line in before] + ["bad record"], data[:40])
-        self.assertGreaterEqual(status, 0, "ended by a signal")
-
-    def refused_in_a_list(self, data, function=0):
-        """With a run in hand, and with records after it that would be answered."""
-        run = [(record("N", bytes([function])), "fresh"), (record("A", b"abc"), "0")]
-        self.refused(run, data + 3 * record("A", b"abc") + record("N", b"\1"))
-
+class Malformed(Refused):
     def test_no_record(self):
         self.assertEqual(play(b""), ([], 0))
 
@@ -41,7 +26,7 @@ class Malformed(unittest.TestCase):
                         self.refused([(record("N", bytes([function])), "fresh")], data[:size])
 
     def test_unknown_op(self):
-        for op in "\x00\n \xff09anftkhvcebpZ":
+        for op in "\x00\n \xff09aftkhvcebpmZ":
             for n in (0, 1):
                 with self.subTest(op=op, n=n):
                     self.refused_in_a_list(record(op, bytes(n)))
@@ -157,7 +142,7 @@ class Malformed(unittest.TestCase):
         for function in range(11, 256):
             with self.subTest(function=function):
                 self.refused_in_a_list(record("N", bytes([function])))
-        for function in {*range(12), 16, 0x80, 0x85, 0xFF}:
+        for function in {*range(18), 0x80, 0x85, 0xFF}:
             with self.subTest(function=function):
                 if function not in (0, 1):
                     self.refused_in_a_list(one_go_record(function, 0x1F, 8, b"abc"))
