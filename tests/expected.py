@@ -5,10 +5,12 @@
   expected.py edges       both sides of each edge of document 01, by the second program
   expected.py day         the digest of a day, by the journal's book and by the second program in one go
   expected.py types       each type of a function that is the sponge, on a run and in one go, by the book and by the second program
+  expected.py keyed       the functions of SP 800-185 on NIST's sample values and at their edges, by the book and by the second program
 """
 import functools
 import sys
 
+import keyed_lines
 import one_go
 import reference
 import transcript
@@ -197,7 +199,7 @@ def bytes_of(reads):
     return f"{first}{' '.join(rest)}"
 
 
-OUTPUTS = {"vectors": vectors_output, "edges": edges_output, "day": day_output, "types": types_output}
+OUTPUTS = {"vectors": vectors_output, "edges": edges_output, "day": day_output, "types": types_output, "keyed": keyed_lines.output}
 
 if __name__ == "__main__":
     if len(sys.argv) != 2 or sys.argv[1] not in OUTPUTS:
