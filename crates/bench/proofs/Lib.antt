@@ -1,2 +1,4 @@
 mod Pieces
 mod Hashers
+mod Started
+mod StartedHashers

@@ -1,9 +1,9 @@
 -- A message absorbed in pieces of one length: what the benchmark's exports answer and write.
 -- Assumes nothing.
-use mathlib.Core.List.{List, []}
+use mathlib.Core.List.{List, [], _∷_}
 use mathlib.Core.Bool.{cond}
 use Prim.Native.Nat.{ℕ}
-use lib.ListN.{length}
+use lib.ListN.{length, replicate, take}
 use lib.Dec.{eqb, leb}
 use Rattle.sponge.specs.Status.{done, inputTooLong, outputTooLong}
 use Rattle.sponge.specs.Transcript.{lent}
@@ -11,6 +11,7 @@ use Rattle.hasher.specs.Function.{messageLimit, longOutput}
 use Rattle.turboshake.specs.Published.{turboshake128}
 use Rattle.fips202.specs.Published.{sha3, shake}
 use Rattle.kangarootwelve.specs.Published.{kt128}
+use Rattle.sp800_185.specs.Published.{cshake, kmac}
 
 -- a function that is timed: its published output, of the message and the number of bytes asked, and the most bytes that are read
 pub record Timed : Type 0 where
@@ -32,6 +33,23 @@ sha3-256 = record { output = sha3 32; limit = 32 }
 -- SHAKE128, of a strength of 16 bytes
 abbrev pub shake128 : Timed
 shake128 = record { output = shake 16; limit = longOutput }
+
+-- cSHAKE128 with N = "N" and S = "S"
+abbrev pub benchName : List ℕ
+benchName = 0x4E ∷ []
+
+abbrev pub benchString : List ℕ
+benchString = 0x53 ∷ []
+
+abbrev pub cshakeWithStrings : Timed
+cshakeWithStrings = record { output = λ m n. cshake 168 m n benchName benchString; limit = longOutput }
+
+-- KMAC128 of 32 bytes with a key of 32 bytes and S = "S"
+unfoldable pub benchKey : List ℕ
+benchKey = replicate 32 0x40
+
+abbrev pub kmacOf32 : Timed
+kmacOf32 = record { output = λ m n. take n (kmac 168 benchKey m 32 benchString); limit = 32 }
 
 -- pieces of no bytes: a number of the benchmark's own
 abbrev pub badStep : ℕ

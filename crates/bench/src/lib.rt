@@ -1,6 +1,7 @@
 // What the benchmarks of bench/ call through the C calling convention.
 mod fips;
 mod in_place;
+mod keyed;
 mod kt;
 
 ghost use mathlib.Core.Path.{_≡_};
