@@ -1,8 +1,9 @@
--- The table of rotation offsets obeys the walking rule, and each offset is below 64.
+-- The table of rotation offsets obeys the walking rule, and each offset is below 64, so that it is itself modulo 64.
 -- Assumes nothing.
 use mathlib.Core.Path.{_≡_, refl}
 use mathlib.Core.Bool.{Bool}
-use Prim.Native.Nat.{ℕ, _<_}
+use Prim.Native.Nat.{ℕ, _%_, _<_}
+use native.Mathlib.Nat.{mod-eq-of-lt}
 use lib.Dec.{ltb, ltb→lt, eqb, eqb→eq}
 use lib.ListN.{getD}
 use Rattle.keccak.specs.State.{lane, from}
@@ -29,3 +30,6 @@ small k x = ltb x 64
 pub offset-small : (k : ℕ) → k < 25 → getD offsets k 0 < 64
 unfolding small
 offset-small k h = ltb→lt (getD offsets k 0) 64 (at small offsets tt k h)
+
+pub offset-places : (k : ℕ) → k < 25 → getD offsets k 0 % 64 ≡ getD offsets k 0
+offset-places k h = mod-eq-of-lt (offset-small k h)

@@ -6,16 +6,43 @@ use mathlib.Core.List.{List, [], _∷_}
 use Prim.Native.Nat.{ℕ, zero, suc, _+_, _-_, _*_, _%_, _^_, _<_, suc-le-suc}
 use native.Mathlib.Nat.{zero-lt-suc}
 use native.Mathlib.Omega.{arith}
-use lib.Bits.{xor-lt, and-lt}
+use lib.Bits.{bitXor, bitAnd, xor-lt, and-lt}
 use lib.Dec.{leb}
 use lib.ListN.{length, getD, set, drop, length-set, length-drop}
 use lib.Seq.{getD-drop}
 use Rattle.keccak.specs.State.{State, lane, grid}
-use Rattle.keccak.specs.Round.{parity, theta, rho, pi, chi, iota, round}
+use Rattle.keccak.specs.Round.{complement, parity, theta, rho, pi, chi, iota, round}
 use Rattle.keccak.specs.Permutation.{rounds, roundConstants, lastRounds}
 use Rattle.keccak.proofs.Grid.{grid-length, grid-words}
 use Rattle.keccak.proofs.Words.{rotl-lt, complement-lt}
 use Rattle.keccak.proofs.Constants.{constant-word}
+
+-- ---- 25 lanes stay 25, whatever they hold
+
+chi-length : (a : List ℕ) → length (chi a) ≡ 25
+unfolding chi
+chi-length a = grid-length (λ x y. bitXor (lane a x y) (bitAnd (complement (lane a (x + 1) y)) (lane a (x + 2) y)))
+
+iota-length : (rc : ℕ) (a : List ℕ) → length (iota rc a) ≡ length a
+unfolding iota
+iota-length rc a = length-set a 0 (bitXor (getD a 0 0) rc)
+
+round-length : (rc : ℕ) (a : List ℕ) → length (round rc a) ≡ 25
+unfolding round
+round-length rc a = iota-length rc (chi (pi (rho (theta a)))) ∙ chi-length (pi (rho (theta a)))
+
+rounds-length : (rcs a : List ℕ) → length a ≡ 25 → length (rounds rcs a) ≡ 25
+unfolding rounds
+rounds-length [] a h = h
+rounds-length (rc ∷ rcs) a h = rounds-length rcs (round rc a) (round-length rc a)
+
+pub last-rounds-length : (n : ℕ) (a : List ℕ) → length a ≡ 25 → length (lastRounds n a) ≡ 25
+unfolding lastRounds
+last-rounds-length n a h = by (leb n 24)
+  where
+    by : (t : Bool) → length (cond t (rounds (drop (24 - n) roundConstants) a) a) ≡ 25
+    by true = rounds-length (drop (24 - n) roundConstants) a h
+    by false = h
 
 -- ---- a state stays a state
 
@@ -59,7 +86,7 @@ module _ (a : List ℕ) (s : State a) where
 
   iota-state : (rc : ℕ) → rc < 2 ^ 64 → State (iota rc a)
   unfolding iota
-  iota-state rc h = record { lanes = length-set a 0 _ ∙ s .lanes; words = iota-words rc h }
+  iota-state rc h = record { lanes = iota-length rc a ∙ s .lanes; words = iota-words rc h }
 
 round-state : (rc : ℕ) (a : List ℕ) → rc < 2 ^ 64 → State a → State (round rc a)
 unfolding round

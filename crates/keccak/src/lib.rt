@@ -5,10 +5,12 @@
 mod round;
 
 ghost use mathlib.Core.Path.{_≡_};
+ghost use Prim.Native.Nat.{_%_};
+ghost use Rattle.keccak.specs.Round.{rotl};
 ghost use Rattle.keccak.specs.Permutation.{lastRounds, roundsStatus};
 
 // The round constants of the 24 rounds of Keccak-f[1600]; the last twelve are document 01's.
-const ROUND_CONSTANTS: [u64; 24] = [
+pub const ROUND_CONSTANTS: [u64; 24] = [
     0x00000000_00000001,
     0x00000000_00008082,
     0x80000000_0000808A,
@@ -41,7 +43,7 @@ pub const DONE: u8 = 0;
 pub const TOO_MANY_ROUNDS: u8 = 16;
 
 // The rotation offset of lane (x, y), at x + 5 y.
-const OFFSETS: [u64; 25] = [
+pub const OFFSETS: [u64; 25] = [
     0,
     1,
     62,
@@ -68,6 +70,14 @@ const OFFSETS: [u64; 25] = [
     56,
     14,
 ];
+
+// x rotated left by n places modulo 64. Without a test for none: so the compiler makes it one instruction.
+pub fn rotate_left(x: u64, n: u64) -> u64
+    ensures { λ r. ⌜ r ≡ rotl x (n % 64) ⌝ }
+{
+    let places = n % 64;
+    x << places | x >> ((64 - places) % 64)
+}
 
 // Permutes the lent lanes by the last `rounds` of the 24 rounds, for any lanes; more than 24 are refused, and permute nothing.
 pub fn permute_in_place(lanes: &mut [u64; 25], rounds: usize) -> u8

@@ -8,20 +8,10 @@ ghost use lib.Bits.{bitAnd, bitXor};
 ghost use Rattle.keccak.specs.State.{lane};
 ghost use Rattle.keccak.specs.Round as spec;
 use crate::OFFSETS;
+use crate::rotate_left;
 
 // Five words by their x before pi: theta's D, or plane y, whose lane k stands at x = k + 2 y.
 struct Plane(u64, u64, u64, u64, u64);
-
-// x rotated left by n places.
-fn rotate_left(x: u64, n: u64) -> u64
-    requires { ⌜ n < 64 ⌝ }
-    ensures { λ r. ⌜ r ≡ spec.rotl x n ⌝ }
-{
-    if n == 0 {
-        return x;
-    }
-    x << n | x >> (64 - n)
-}
 
 // theta's D, made with C[1] inverted, so that D[0] and D[2] come out inverted.
 fn theta_effect(a: &[u64; 25]) -> Plane
