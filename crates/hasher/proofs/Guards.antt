@@ -12,6 +12,7 @@ use Rattle.sponge.specs.Runs.{perform}
 use Rattle.sponge.specs.Count.{Counted}
 use Rattle.sponge.specs.Model.{callStatus}
 use Rattle.sponge.proofs.Valid.{taken-fits, taken-rounds}
+use Rattle.sponge.proofs.Lent.{lent-refused}
 use Rattle.sponge.proofs.Joining.{perform-is}
 use Rattle.hasher.specs.Function.{Function, rules}
 use Rattle.hasher.specs.Model.{machine, seen, held, guarded, performOf, writtenOf, answerOf, outputOf, plain, ending, mapCall, answer, written}
@@ -21,10 +22,6 @@ use Rattle.hasher.specs.declared.Answer.{Answer}
 pub guard-refused : (n : ℕ) → (n ≡ 0 → ⊥) → (a : Answer) (r : Run) → record { run = r; status = n } ≡ guarded n a r
 guard-refused zero h a r = absurd (h refl)
 guard-refused (suc n) h a r = refl
-
-pub lent-refused : (n : ℕ) → (n ≡ 0 → ⊥) → (bytes out : List ℕ) → out ≡ lent n bytes out
-lent-refused zero h bytes out = absurd (h refl)
-lent-refused (suc n) h bytes out = refl
 
 -- of two statuses in a row the first that is none of done decides
 pub lent-both : (g h : ℕ) (bytes out : List ℕ) → lent g (lent h bytes out) out ≡ lent (firstOf g h) bytes out

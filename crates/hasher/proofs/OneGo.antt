@@ -2,7 +2,7 @@
 -- Assumes nothing.
 use mathlib.Core.Path.{_≡_, refl, ap, sym, _∙_}
 use mathlib.Core.List.{List}
-use Prim.Native.Nat.{ℕ, zero, suc, _+_, _≤_, _<_, zero-le}
+use Prim.Native.Nat.{ℕ, _+_, _≤_, _<_, zero-le}
 use native.Mathlib.Omega.{arith}
 use borrow.Author.Tests.{eq-eqb, ne-eqb, le-leb, lt-leb}
 use lib.ListN.{length, replicate}
@@ -14,10 +14,11 @@ use Rattle.sponge.proofs.FirstStatus.{first-refused}
 use Rattle.sponge.proofs.Position.{steps-position}
 use Rattle.sponge.proofs.Published.{squeeze-sponge}
 use Rattle.sponge.proofs.Valid.{fits-valid, absorb-done, pad-done, squeeze-done, output-done, zero-lanes, pad-position}
+use Rattle.sponge.proofs.Lent.{lent-refused}
 use Rattle.hasher.specs.Function.{messageLimit}
 use Rattle.hasher.specs.Model.{hashStatus, hashOutput, hashAtStatus, hashAtOutput}
 use Rattle.hasher.proofs.Cases.{position-le}
-use Rattle.hasher.proofs.Guards.{lent-refused, lent-both}
+use Rattle.hasher.proofs.Guards.{lent-both}
 
 -- ---- the status
 

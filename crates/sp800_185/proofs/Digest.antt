@@ -11,6 +11,7 @@ use Rattle.sponge.specs.Model.{Sponge, fresh, absorbBytes, pad, squeezeBytes, c
 use Rattle.sponge.proofs.Waiting.{steps-append}
 use Rattle.sponge.proofs.Published.{squeeze-sponge}
 use Rattle.sponge.proofs.Valid.{fits-valid, pad-done, squeeze-done, output-done, pad-position}
+use Rattle.sponge.proofs.Lent.{lent-refused, lent-done}
 use Rattle.hasher.specs.Function.{longOutput}
 use Rattle.hasher.specs.declared.Run.{Run}
 use Rattle.sp800_185.specs.Published.{rightEncode, encodeString, bytepad, bothEmpty, cshakePrefix, cshakeByte, cshakeString, cshake, kmacName, kmacMessage, kmac, kmacxof}
@@ -21,7 +22,7 @@ use Rattle.sp800_185.specs.Cshake as cshake
 use Rattle.sp800_185.specs.Kmac as kmac
 use Rattle.sp800_185.specs.declared.Numbers.{Numbers}
 use Rattle.sp800_185.proofs.Prefixes.{absorbs, in-block, start-is}
-use Rattle.sp800_185.proofs.Statuses.{within, lent-refused, lent-done}
+use Rattle.sp800_185.proofs.Statuses.{within}
 use Rattle.sp800_185.proofs.Starts.{cshake-fits, kmac-fits}
 
 -- the sponge of a run

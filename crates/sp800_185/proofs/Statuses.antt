@@ -1,13 +1,11 @@
 -- The statuses of a start and of a call in one go by their cases, and what is within the limits where the status is 0.
 -- Assumes nothing.
-use mathlib.Core.Path.{_≡_, refl, sym, ap}
-use mathlib.Core.List.{List}
+use mathlib.Core.Path.{_≡_, sym}
 use mathlib.Core.Bool.{cond}
-use Prim.Native.Nat.{ℕ, zero, suc, _≤_, _<_}
+use Prim.Native.Nat.{ℕ, suc, _≤_, _<_}
 use lib.Dec.{leb}
 use borrow.Author.Tests.{eq-eqb, ne-eqb, le-leb, lt-leb, leb-true}
 use Rattle.sponge.specs.Status.{done, inputTooLong, firstOf}
-use Rattle.sponge.specs.Transcript.{lent}
 use Rattle.sponge.proofs.FirstStatus.{first-refused, first-zero}
 use Rattle.sponge.proofs.Streaming.{cond-zero}
 use Rattle.hasher.specs.Function.{messageLimit, longOutput}
@@ -70,11 +68,3 @@ module _ (s m l : ℕ) where
       let b = first-zero s (lengthStatus l) (a .1) in
       let h = lengths.within l (lengths.length-taken l (b .1)) in
       record { message = leb-true m messageLimit (cond-zero (leb m messageLimit) 1 (a .0)); start = b .0; few = h .1 }
-
--- a refused call leaves the output as it was
-pub lent-refused : (n : ℕ) → (n ≡ 0 → ⊥) → (bytes out : List ℕ) → out ≡ lent n bytes out
-lent-refused zero h bytes out = absurd (h refl)
-lent-refused (suc n) h bytes out = refl
-
-pub lent-done : (n : ℕ) → n ≡ 0 → (bytes out : List ℕ) → bytes ≡ lent n bytes out
-lent-done n e bytes out = ap (λ (k : ℕ). lent k bytes out) (sym e)

@@ -1,6 +1,6 @@
 -- Laws of the sponge. Those marked `pub` serve the crates above: `Published` (the fold computes the published sponge), `Position`, `Count`, `Valid`
--- (the calls' two cases), `Following` to `Corollaries` (lists of calls, and what follows), `Answers`, `Pieces` and `PieceStatus` (one call,
--- and calls in a row). The rest serves the functions' own proofs.
+-- (the calls' two cases), `Following` to `Corollaries` (lists of calls, and what follows), `Lent`, `Answers`, `Pieces` and
+-- `PieceStatus` (one call, and calls in a row), `Abreast` (the calls on four states). The rest serves the functions' own proofs.
 pub mod Xor
 pub mod XorByte
 pub mod Waiting
@@ -9,6 +9,7 @@ pub mod Position
 pub mod Count
 pub mod Digits
 pub mod FirstStatus
+pub mod Lent
 pub mod Valid
 pub mod Following
 pub mod Streaming
@@ -20,6 +21,7 @@ pub mod Corollaries
 pub mod Answers
 pub mod Pieces
 pub mod PieceStatus
-mod Words
+pub mod Words
 mod Output
-mod Blocks
+pub mod Blocks
+pub mod Abreast

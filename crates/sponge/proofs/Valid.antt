@@ -12,8 +12,8 @@ use Rattle.keccak.specs.Permutation.{roundsStatus, lastRounds}
 use Rattle.sponge.specs.Published.{zeroLanes}
 use Rattle.sponge.specs.Status.{done, unreachable}
 use Rattle.sponge.specs.Model.{Sponge, absorbBytes, pad, padWith, squeezeBytes, afterBytes, valid, callStatus, outcome, absorbCall, padCall, squeezeCall, squeezeOutput}
-use Rattle.sponge.specs.Transcript.{lent}
 use Rattle.sponge.proofs.FirstStatus.{first-zero}
+use Rattle.sponge.proofs.Lent.{lent-refused}
 
 pub valid-fits : (rate position : ℕ) → valid rate position ≡ true → (position ≤ rate) × (0 < rate) × (rate ≤ 200)
 unfolding valid
@@ -96,11 +96,7 @@ module _ (rounds rate : ℕ) (s : Sponge) (n : ℕ) (h : n ≡ 0 → ⊥) (e : n
 
   pub output-refused : (out : List ℕ) → out ≡ squeezeOutput rounds rate s out
   unfolding squeezeOutput
-  output-refused out = rw (← e) (by n h)
-    where
-      by : (m : ℕ) → (m ≡ 0 → ⊥) → out ≡ lent m (squeezeBytes (lastRounds rounds) rate (length out) s) out
-      by zero g = absurd (g refl)
-      by (suc m) g = refl
+  output-refused out = rw (← e) (lent-refused n h (squeezeBytes (lastRounds rounds) rate (length out) s) out)
 
 -- a fresh state is 25 zeros
 pub zero-lanes : zeroLanes ≡ replicate 25 0

@@ -1,12 +1,12 @@
 -- Bytes XORed into lanes one by one are words XORed into them at once.
 -- Assumes nothing.
-use mathlib.Core.Path.{_≡_, sym, ap, _∙_}
+use mathlib.Core.Path.{_≡_, refl, sym, ap, _∙_}
 use mathlib.Core.List.{List, [], _∷_, _++_}
 use Prim.Native.Nat.{ℕ, zero, suc, _+_, _-_, _*_, _/_, _%_, _^_, _<_, _≤_}
 use native.Mathlib.Nat.{zero-mul, zero-add, add-zero, add-suc, suc-add, add-comm, mul-one, mul-suc, mul-comm, mul-assoc, add-mul}
 use native.Mathlib.Decide.{decLt}
 use native.Mathlib.Omega.{arith}
-use lib.ListN.{length, getD, take, drop, set, length-take, length-drop, drop-of-length-le, take-append-drop, List·getD-eq-default}
+use lib.ListN.{length, getD, take, drop, set, length-set, length-take, length-drop, drop-of-length-le, take-append-drop, List·getD-eq-default}
 use lib.Seq.{drop-cons, set-getD, set-set, set-out, getD-set-same, take-all, take-add, length-take-le, getD-take, getD-drop, drop-drop}
 use lib.Bits.{bitXor, xor-zero-r, xor-comm, xor-shifted}
 use lib.Pow.{shl-exact, shl-lt, pow-add, high, low}
@@ -50,6 +50,10 @@ byte-up n j = ap (λ (x : ℕ). n * x) (pow-byte j) ∙ sym (mul-assoc n 256 (2 
 shift : (b n j : ℕ) → b * 2 ^ (8 * j) + n * 2 ^ (8 * suc j) ≡ (b + 256 * n) * 2 ^ (8 * j)
 shift b n j = ap (λ (x : ℕ). b * 2 ^ (8 * j) + x) (byte-up n j) ∙ sym (add-mul b (256 * n) (2 ^ (8 * j)))
 
+xor-length : (l : List ℕ) (i b : ℕ) → length (xorByte l i b) ≡ length l
+unfolding xorByte
+xor-length l i b = length-set l (i / 8) (bitXor (getD l (i / 8) 0) (b * 2 ^ (8 * (i % 8))))
+
 -- bytes that stand in one lane
 lane-bytes : (bs : List ℕ) (l : List ℕ) (q j : ℕ) → ((k : ℕ) → getD bs k 0 < 256) → j + length bs ≤ 8
     → puts xorByte l (8 * q + j) bs ≡ xorLane l q (word bs * 2 ^ (8 * j))
@@ -63,6 +67,11 @@ lane-bytes (b ∷ bs) l q j h g =
     ∙ ap (λ (m : List ℕ). xorLane m q (word bs * 2 ^ (8 * suc j))) (byte-lane l q j b (omega arith))
     ∙ lane-join l q (8 * suc j) (b * 2 ^ (8 * j)) (word bs) lo
     ∙ ap (xorLane l q) (shift b (word bs) j ∙ ap (λ (n : ℕ). n * 2 ^ (8 * j)) (sym (word-cons b bs)))
+
+-- as many lanes as before
+pub puts-length : (bs l : List ℕ) (i : ℕ) → length (puts xorByte l i bs) ≡ length l
+puts-length [] l i = refl
+puts-length (b ∷ bs) l i = puts-length bs (xorByte l i b) (suc i) ∙ xor-length l i b
 
 -- the bytes of two lists in a row
 pub puts-append : (l : List ℕ) (p : ℕ) (s t : List ℕ) → puts xorByte l p (s ++ t) ≡ puts xorByte (puts xorByte l p s) (p + length s) t
@@ -139,7 +148,7 @@ shl-low w k j n x {lo} h e g =
     ap (λ (i : ℕ). i % 2 ^ n) (ap (λ (i : ℕ). i * 2 ^ j) e ∙ add-mul (x * 2 ^ k) lo (2 ^ j) ∙ ap (λ (i : ℕ). i + lo * 2 ^ j) up) ∙ low x n small
 
 -- a part of bytes has bytes
-part-bytes : (s : List ℕ) (i n : ℕ) → ((j : ℕ) → getD s j 0 < 256) → (k : ℕ) → getD (take n (drop i s)) k 0 < 256
+pub part-bytes : (s : List ℕ) (i n : ℕ) → ((j : ℕ) → getD s j 0 < 256) → (k : ℕ) → getD (take n (drop i s)) k 0 < 256
 part-bytes s i n h k = by (decLt k n)
   where
     by : Dec (k < n) → getD (take n (drop i s)) k 0 < 256

@@ -7,6 +7,7 @@ pub mod Model
 pub mod Count
 pub mod Status
 pub mod Transcript
+pub mod Four
 pub mod Callable
 pub mod Runs
 pub mod Streaming

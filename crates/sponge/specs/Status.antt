@@ -2,6 +2,7 @@
 -- Assumes nothing.
 use Prim.Native.Nat.{ℕ, zero, suc}
 use Rattle.keccak.specs.Permutation as permutation
+use Rattle.abreast.specs.Four as four
 
 abbrev pub done : ℕ
 done = 0
@@ -24,7 +25,7 @@ abbrev pub customizationTooLong : ℕ
 customizationTooLong = 4
 
 -- no run reached from a fresh one has this phase, these totals and these positions; of a call on a state alone: this is no rate, or no
--- position in a block
+-- position in a block; on four states: there is no such state, these are no whole words of it, or the strings do not have them
 abbrev pub unreachable : ℕ
 unreachable = 5
 
@@ -39,6 +40,10 @@ badLength = 7
 -- an event of a day is longer than its limit
 abbrev pub eventTooLong : ℕ
 eventTooLong = 8
+
+-- a lent slice of four states is not 100 words long
+abbrev pub badStates : ℕ
+badStates = four.badStates
 
 -- more than 24 rounds of the permutation
 abbrev pub tooManyRounds : ℕ

@@ -31,7 +31,7 @@ fn half_word_at(s: &[u8], i: usize) -> u64
 }
 
 // The same of eight bytes.
-fn word_at(s: &[u8], i: usize) -> u64
+pub(crate) fn word_at(s: &[u8], i: usize) -> u64
     requires { ⌜ i + 8 ≤ length (now s) ⌝ }
     ensures { λ r. ⌜ r ≡ word (take 8 (drop i (now (s .entry)))) ⌝ }
 {
@@ -126,7 +126,7 @@ fn byte_of(lanes: &[u64; 25], at: usize) -> u8
 }
 
 // A word's eight bytes, the least significant first, at index i.
-fn put_word(out: &mut [u8], i: usize, w: u64)
+pub(crate) fn put_word(out: &mut [u8], i: usize, w: u64)
     requires { ⌜ i + 8 ≤ length (now out) ⌝ }
     ensures { λ _. ⌜ now (out .exit) ≡ withWord (now (out .entry)) i w ⌝ }
 {

@@ -2,7 +2,9 @@
 //
 // The position is the number of bytes of the block in hand that were absorbed or squeezed. A full block is permuted when its
 // next byte arrives or at the padding, and on squeezing when a byte past it is asked: a position equal to the rate is one.
+// `four` has the blocks of four sponges whose states stand in one slice.
 mod block;
+pub mod four;
 pub mod status;
 
 ghost use mathlib.Core.Path.{_≡_};

@@ -17,4 +17,6 @@ pub const BAD_LENGTH: u8 = 7;
 
 pub const EVENT_TOO_LONG: u8 = 8;
 
+pub const BAD_STATES: u8 = abreast::BAD_STATES;
+
 pub const TOO_MANY_ROUNDS: u8 = keccak::TOO_MANY_ROUNDS;
