@@ -5,8 +5,7 @@ use mathlib.Core.List.{List}
 use Prim.Native.Nat.{ℕ, _≤_, _<_}
 use lib.ListN.{length}
 use Rattle.sponge.specs.Transcript.{Phase.squeezing}
-use Rattle.sponge.specs.Streaming.{joined}
-use Rattle.sponge.proofs.Streaming.{outputSo}
+use Rattle.sponge.specs.Streaming.{joined, outputSo}
 use Rattle.turboshake.specs.Transcript.{messageLimit, outputLimit}
 use Rattle.kangarootwelve.specs.Transcript as kt
 use Rattle.kangarootwelve.specs.Transcript.{customizationLimit}

@@ -8,11 +8,11 @@ use native.Mathlib.Omega.{arith}
 use Rattle.sponge.specs.Transcript.{Call, Call.absorb, Call.customize, Call.finalize, Call.finish, Call.squeeze, Phase, Phase.absorbing, Phase.customizing, Phase.squeezing, Transcript, freshTranscript, Reply, statusAt}
 use Rattle.sponge.specs.Runs as runs
 use Rattle.sponge.specs.Runs.{runOf}
-use Rattle.sponge.specs.Streaming.{history, joined}
+use Rattle.sponge.specs.Streaming.{history, joined, outputSo}
 use Rattle.sponge.proofs.Following.{One, Same, follows}
 use Rattle.sponge.proofs.Joining.{transcribe-done, transcribe-refused}
 use Rattle.sponge.proofs.Streaming as generic
-use Rattle.sponge.proofs.Streaming.{Fits, fits-fresh, outputSo, Laws}
+use Rattle.sponge.proofs.Streaming.{Fits, fits-fresh, Laws}
 use Rattle.sponge.proofs.PieceStatus as pieces
 use Rattle.kangarootwelve.specs.Transcript as kt
 use Rattle.kangarootwelve.specs.Transcript.{customizedOf}

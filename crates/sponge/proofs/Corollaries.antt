@@ -133,9 +133,9 @@ module _ {S A : Type 0} (U : Rules A) (M : Machine S A) (L : generic.Laws U M) (
 
 -- ---- a list of calls on runs held in another form: g does to `held x` what f does to x
 
-module _ {A X R : Type 0} (f : X → Call A → Reply X) (g : R → Call A → Reply R) (held : X → R)
-    (same : (x : X) (c : Call A) → g (held x) c ≡ record { status = f x c .status; bytes = f x c .bytes; left = held (f x c .left) }) where
-  pub history-held : (cs : List (Call A)) (x : X)
+module _ {C X R : Type 0} (f : X → C → Reply X) (g : R → C → Reply R) (held : X → R)
+    (same : (x : X) (c : C) → g (held x) c ≡ record { status = f x c .status; bytes = f x c .bytes; left = held (f x c .left) }) where
+  pub history-held : (cs : List C) (x : X)
       → history g (held x) cs ≡ record { statuses = history f x cs .statuses; bytes = history f x cs .bytes; left = held (history f x cs .left) }
   history-held [] x = refl
   history-held (c ∷ cs) x =

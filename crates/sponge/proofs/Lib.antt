@@ -1,5 +1,5 @@
 -- Laws of the sponge. Those marked `pub` serve the crates above: `Published` (the fold computes the published sponge), `Position`, `Count`, `Valid`
--- (the calls' two cases), `Following` to `Corollaries` (lists of calls, and what follows), `Lent`, `Answers`, `Pieces` and
+-- (the calls' two cases), `Following` to `Corollaries` (lists of calls, and what follows), `Lending` (calls that lend words), `Lent`, `Answers`, `Pieces` and
 -- `PieceStatus` (one call, and calls in a row), `Abreast` (the calls on four states). The rest serves the functions' own proofs.
 pub mod Xor
 pub mod XorByte
@@ -13,6 +13,7 @@ pub mod Lent
 pub mod Valid
 pub mod Following
 pub mod Streaming
+pub mod Lending
 pub mod Joining
 pub mod Done
 pub mod Both

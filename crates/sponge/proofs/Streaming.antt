@@ -10,11 +10,11 @@ use lib.ListN.{length, drop, length-append}
 use lib.Seq.{drop-at}
 use lib.Dec.{eqb}
 use borrow.Author.Tests.{leb-true}
-use Rattle.sponge.specs.Transcript.{Call, Call.absorb, Call.customize, Call.finalize, Call.finish, Call.squeeze, Phase, Phase.absorbing, Phase.customizing, Phase.squeezing, phaseNumber, customizationOf, Transcript, freshTranscript, Customization, Customization.none, Customization.upTo, customizeStatus, Rules, outputMost, statusOf, statusAt, outputOf, written, given, transcribe}
-use Rattle.sponge.specs.Runs.{Machine, worked, bytesOut, perform, stateOf, runOf}
-use Rattle.sponge.specs.Streaming.{history, Streaming}
+use Rattle.sponge.specs.Transcript.{Call, Call.absorb, Call.customize, Call.finalize, Call.finish, Call.squeeze, Phase, Phase.absorbing, Phase.customizing, Phase.squeezing, phaseNumber, customizationOf, Transcript, freshTranscript, Customization, Customization.none, Customization.upTo, customizeStatus, Rules, outputMost, statusOf, statusAt, written, given, transcribe}
+use Rattle.sponge.specs.Runs.{Machine, freshRun, worked, bytesOut, perform, stateOf, runOf}
+use Rattle.sponge.specs.Streaming.{history, outputSo, Streaming}
 use Rattle.sponge.proofs.FirstStatus.{first-zero}
-use Rattle.sponge.proofs.Following.{One, Same, follows}
+use Rattle.sponge.proofs.Following.{One, Same, follows, streams-from}
 
 pub cond-zero : (t : Bool) (n : ℕ) → cond t 0 (suc n) ≡ 0 → t ≡ true
 cond-zero true n e = refl
@@ -55,10 +55,6 @@ module _ {A : Type 0} (U : Rules A) where
 
   pub fits-fresh : Fits freshTranscript
   fits-fresh = record { input-fits = zero-le; output-fits = zero-le; phase-taken = tt }
-
-  -- all bytes that were given so far
-  abbrev pub outputSo : Transcript A → List ℕ
-  outputSo t = outputOf U t (t .squeezed)
 
 module _ {S A : Type 0} (U : Rules A) (M : Machine S A) where
   -- what a machine with a customization phase owes for it: C follows in pieces, is counted, and leaves at the close what the finalize with all of
@@ -254,11 +250,12 @@ module _ {S A : Type 0} (U : Rules A) (M : Machine S A) (L : Laws U M) where
   same : (cs : List (Call A)) (t : Transcript A) → Fits U t → Same (perform U M) (transcribe U) (runOf U M) (Fits U) (outputSo U) t cs
   same = follows (perform U M) (transcribe U) (runOf U M) (Fits U) (outputSo U) one
 
+  -- the run that the fresh transcript tells of is the fresh one
+  pub fresh-told : runOf U M freshTranscript ≡ freshRun U M
+  fresh-told = rw (L .absorb-nothing 0 (M .fresh))
+
   pub streaming : (cs : List (Call A)) → Streaming U M cs
-  streaming cs =
-      let s : Same (perform U M) (transcribe U) (runOf U M) (Fits U) (outputSo U) freshTranscript cs = same cs freshTranscript (fits-fresh U) in
-      let e : M .absorb 0 (M .fresh) [] ≡ M .fresh = L .absorb-nothing 0 (M .fresh) in
-      record { statuses = rw e at (s .statuses); bytes = rw e at (s .bytes); run = rw e at (s .run); output = rw e at (s .output) }
+  streaming cs = streams-from (perform U M) (transcribe U) (runOf U M) (Fits U) (outputSo U) (freshRun U M) freshTranscript cs fresh-told refl (same cs freshTranscript (fits-fresh U))
 
   -- no list of calls passes the limits
   pub told-fits : (cs : List (Call A)) → Fits U (history (transcribe U) freshTranscript cs .left)

@@ -3,7 +3,6 @@
 use mathlib.Core.List.{List, [], _∷_}
 use Prim.Native.Nat.{ℕ, _^_, _<_}
 use lib.ListN.{length}
-use Rattle.sponge.specs.Transcript.{Call}
 
 abbrev pub Bytes : List ℕ → Type 0
 Bytes [] = Unit {0}
@@ -13,6 +12,6 @@ Bytes (b ∷ s) = (b < 256) × Bytes s
 abbrev pub Slice : List ℕ → Type 0
 Slice s = Bytes s × (length s < 2 ^ 63)
 
-abbrev pub All : {A : Type 0} → (Call A → Type 0) → List (Call A) → Type 0
+abbrev pub All : {C : Type 0} → (C → Type 0) → List C → Type 0
 All can [] = Unit {0}
 All can (c ∷ cs) = can c × All can cs

@@ -11,3 +11,4 @@ pub mod Four
 pub mod Callable
 pub mod Runs
 pub mod Streaming
+pub mod Lending
