@@ -6,31 +6,36 @@ use Prim.Native.Nat.{ℕ, zero, suc, _+_, _*_, _<_}
 use native.Mathlib.Nat.{add-zero, zero-add}
 use native.Mathlib.Omega.{arith}
 use lib.ListN.{length, length-append}
+use borrow.Author.Tests.{ne-eqb}
 use Rattle.keccak.specs.Permutation.{permuted}
+use Rattle.abreast.specs.Four.{statesStatus}
 use Rattle.sponge.specs.Waiting.{At, positionAfter, indexAfter}
 use Rattle.sponge.specs.Count.{Counted, spongeOf}
 use Rattle.sponge.specs.Model.{padWith}
-use Rattle.sponge.specs.Transcript.{Call, Phase, Phase.absorbing, Phase.customizing, Phase.squeezing, phaseNumber, Transcript}
+use Rattle.sponge.specs.Transcript.{Call, Phase, Phase.absorbing, Phase.customizing, Phase.squeezing, phaseNumber, Transcript, Reply}
+use Rattle.sponge.specs.Callable.{All}
+use Rattle.sponge.specs.Runs as runs
 use Rattle.sponge.specs.Runs.{freshRun, perform}
+use Rattle.sponge.specs.Lending.{CallWith, unlessRefused, plainly}
 use Rattle.sponge.specs.Streaming as streaming
 use Rattle.sponge.specs.Streaming.{History}
 use Rattle.sponge.proofs.Position.{After}
 use Rattle.sponge.proofs.Count.{added, after-counted, open-words, closed-words}
-use Rattle.sponge.proofs.Corollaries.{history-held}
-use Rattle.sponge.proofs.Streaming.{told-fits}
+use Rattle.sponge.proofs.Lending.{told-fits-with, history-plainly, taken, left-taken, taken-can}
 use Rattle.sponge.proofs.Reachable as generic
 use Rattle.kangarootwelve.specs.Published.{chunk, lengthEncode}
-use Rattle.kangarootwelve.specs.Transcript.{customizedOf, Callable, rules}
+use Rattle.kangarootwelve.specs.Transcript.{customizedOf, Callable, CallableWith, rules}
 use Rattle.kangarootwelve.specs.Tree.{Tree, absorbTreeOf, closeToOf, finalizedOf}
 use Rattle.kangarootwelve.specs.Count.{lanesCounted, CountedTree, permutationsOf, nodeLength, treeCount, closedTree, treeWords, closedWords, openKt, closedKt}
-use Rattle.kangarootwelve.specs.Model.{machine, seen, held, freshOf, answerOf, replyOf}
-use Rattle.kangarootwelve.specs.Claims.{freshCountedTree, squeezedTree, told, ran, definedCount, toldCount, fed, whole, Counts, Reached, Five, Strengths}
+use Rattle.kangarootwelve.specs.Model.{Nodes, machine, seen, held, answerOf, replyOf, answerAbreast, hashOutput, abreastStatus, abreastOutput}
+use Rattle.kangarootwelve.specs.Claims.{freshCountedTree, squeezedTree, told, ran, definedCount, toldCount, fed, whole, runTold, Joining, OneGo, Counts, Reached, Five, Strengths}
 use Rattle.kangarootwelve.specs.declared.Run.{Run}
 use Rattle.kangarootwelve.proofs.Numbered.{numberTree, numberFinalize, Told, numbered-told, finish-told, squeezed-told}
 use Rattle.kangarootwelve.proofs.CountedTree.{both-absorbed, finalized-number, numberAt}
 use Rattle.kangarootwelve.proofs.Laws.{positions, first-is, second-is, third-is, freshNodes, fresh-due, told-at, absorb-due, laws}
 use Rattle.kangarootwelve.proofs.Cases.{open-count, closed-count}
-use Rattle.kangarootwelve.proofs.Streaming.{corollaries, streaming-code, count-told}
+use Rattle.kangarootwelve.proofs.OneGo.{hash-12, abreast-kept}
+use Rattle.kangarootwelve.proofs.Streaming.{corollaries, history-code, streams-code, count-told}
 
 module _ (rate chaining : ℕ) (pos : 0 < rate) where
   -- ---- the permutations
@@ -76,10 +81,10 @@ module _ (rate chaining : ℕ) (pos : 0 < rate) where
   pub defined-told : (t : Transcript (List ℕ)) → definedCount rate chaining t ≡ toldCount rate chaining t
   defined-told t = defined-by (t .absorbed) (t .phase) (t .squeezed)
 
-  totals : (cs : List (Call (List ℕ))) → ran rate chaining cs .left .permutations ≡ toldCount rate chaining (told rate chaining cs .left)
+  totals : (cs : List (CallWith (List ℕ))) → ran rate chaining cs .left .permutations ≡ toldCount rate chaining (told rate chaining cs .left)
   totals cs =
-      ap (λ (h : History Run). h .left .permutations) (streaming-code rate chaining pos cs)
-      ∙ count-told rate chaining pos (told rate chaining cs .left) (told-fits (rules rate chaining) (machine rate chaining) (laws rate chaining pos) cs)
+      ap (λ (r : Run). r .permutations) (streams-code rate chaining pos cs .run)
+      ∙ count-told rate chaining pos (told rate chaining cs .left) (told-fits-with (rules rate chaining) (machine rate chaining) (laws rate chaining pos) cs)
 
   -- in the request's words
   tree-words : (q o : ℕ) → treeCount rate chaining q o ≡ treeWords rate chaining q o
@@ -98,10 +103,10 @@ module _ (rate chaining : ℕ) (pos : 0 < rate) where
       let d = closed-words rate pos o chaining in
       λ i. a i + b i + d i
 
-  phase-told : (cs : List (Call (List ℕ))) → ran rate chaining cs .left .phase ≡ phaseNumber (told rate chaining cs .left .phase)
-  phase-told cs = ap (λ (h : History Run). h .left .phase) (streaming-code rate chaining pos cs)
+  phase-told : (cs : List (CallWith (List ℕ))) → ran rate chaining cs .left .phase ≡ phaseNumber (told rate chaining cs .left .phase)
+  phase-told cs = ap (λ (r : Run). r .phase) (streams-code rate chaining pos cs .run)
 
-  while-open : (cs : List (Call (List ℕ))) → (ran rate chaining cs .left .phase ≡ 1 → ⊥)
+  while-open : (cs : List (CallWith (List ℕ))) → (ran rate chaining cs .left .phase ≡ 1 → ⊥)
       → ran rate chaining cs .left .permutations
       ≡ treeWords rate chaining (indexAfter chunk (fed rate chaining (told rate chaining cs .left))) (positionAfter chunk (fed rate chaining (told rate chaining cs .left)))
   unfolding openKt
@@ -110,7 +115,7 @@ module _ (rate chaining : ℕ) (pos : 0 < rate) where
       totals cs ∙ sym (open-count rate chaining (phaseNumber (t .phase)) (fed rate chaining t) (customizedOf (t .phase)) (t .squeezed) (λ e. h (phase-told cs ∙ e)))
       ∙ tree-words (indexAfter chunk (fed rate chaining t)) (positionAfter chunk (fed rate chaining t))
 
-  once-closed : (cs : List (Call (List ℕ))) → ran rate chaining cs .left .phase ≡ 1
+  once-closed : (cs : List (CallWith (List ℕ))) → ran rate chaining cs .left .phase ≡ 1
       → ran rate chaining cs .left .permutations
       ≡ closedWords rate chaining (indexAfter chunk (whole rate chaining (told rate chaining cs .left))) (positionAfter chunk (whole rate chaining (told rate chaining cs .left))) (told rate chaining cs .left .squeezed)
   unfolding closedKt
@@ -129,22 +134,31 @@ module _ (rate chaining : ℕ) (pos : 0 < rate) where
 
   -- ---- status 5
 
-  left-is : (cs : List (Call (List ℕ))) → ran rate chaining cs .left ≡ held (streaming.ran (rules rate chaining) (machine rate chaining) cs .left)
-  unfolding freshOf replyOf answerOf
+  -- the calls that their slices do not refuse leave what all of them leave
+  left-is : (cs : List (CallWith (List ℕ))) → ran rate chaining cs .left ≡ held (streaming.ran (rules rate chaining) (machine rate chaining) (taken cs) .left)
   left-is cs =
-      ap (λ (h : History Run). h .left)
-      (history-held (perform (rules rate chaining) (machine rate chaining)) (replyOf rate chaining) held (λ r c. refl) cs (freshRun (rules rate chaining) (machine rate chaining)))
+      ap (λ (h : History Run). h .left) (history-code rate chaining pos cs)
+      ∙ ap held (left-taken (perform (rules rate chaining) (machine rate chaining)) cs (freshRun (rules rate chaining) (machine rate chaining)))
+
+  plain-left : (cs : List (Call (List ℕ))) → ran rate chaining (plainly cs) .left ≡ held (streaming.ran (rules rate chaining) (machine rate chaining) cs .left)
+  plain-left cs =
+      ap (λ (h : History Run). h .left) (history-code rate chaining pos (plainly cs))
+      ∙ ap (λ (h : History (runs.Run Nodes)). held (h .left)) (history-plainly (perform (rules rate chaining) (machine rate chaining)) cs (freshRun (rules rate chaining) (machine rate chaining)))
+
+  plain-callable : (cs : List (Call (List ℕ))) → All Callable cs → All CallableWith (plainly cs)
+  plain-callable [] h = tt
+  plain-callable (c ∷ cs) h = ((h .0, tt), plain-callable cs (h .1))
 
   to-machine : (r : Run) → Reached rate chaining r → generic.Reached (rules rate chaining) (machine rate chaining) positions Callable (seen r)
   unfolding machine
   to-machine r g =
-      let cs : List (Call (List ℕ)) = g .calls in
+      let cs : List (CallWith (List ℕ)) = g .calls in
       let node = sym (ap (λ (q : Run). q .node .position) (left-is cs)) ∙ g .node-is in
       let leaf = sym (ap (λ (q : Run). q .leaf .position) (left-is cs)) ∙ g .leaf-is in
       let permutations = sym (ap (λ (q : Run). q .permutations) (left-is cs)) ∙ g .permutations-is in
       record {
-        calls = cs;
-        calls-can = g .callable;
+        calls = taken cs;
+        calls-can = taken-can Callable CallableWith (λ c h. h .0) cs (g .callable);
         phase-is = sym (ap (λ (q : Run). q .phase) (left-is cs)) ∙ g .phase-is;
         absorbed-is = sym (ap (λ (q : Run). q .absorbed) (left-is cs)) ∙ g .absorbed-is;
         customized-is = sym (ap (λ (q : Run). q .customized) (left-is cs)) ∙ g .customized-is;
@@ -158,15 +172,15 @@ module _ (rate chaining : ℕ) (pos : 0 < rate) where
   to-code r g =
       let cs : List (Call (List ℕ)) = g .calls in
       record {
-        calls = cs;
-        callable = g .calls-can;
-        phase-is = ap (λ (q : Run). q .phase) (left-is cs) ∙ g .phase-is;
-        absorbed-is = ap (λ (q : Run). q .absorbed) (left-is cs) ∙ g .absorbed-is;
-        customized-is = ap (λ (q : Run). q .customized) (left-is cs) ∙ g .customized-is;
-        squeezed-is = ap (λ (q : Run). q .squeezed) (left-is cs) ∙ g .squeezed-is;
-        node-is = ap (λ (q : Run). q .node .position) (left-is cs) ∙ first-is (g .positions-are);
-        leaf-is = ap (λ (q : Run). q .leaf .position) (left-is cs) ∙ second-is (g .positions-are);
-        permutations-is = ap (λ (q : Run). q .permutations) (left-is cs) ∙ third-is (g .positions-are);
+        calls = plainly cs;
+        callable = plain-callable cs (g .calls-can);
+        phase-is = ap (λ (q : Run). q .phase) (plain-left cs) ∙ g .phase-is;
+        absorbed-is = ap (λ (q : Run). q .absorbed) (plain-left cs) ∙ g .absorbed-is;
+        customized-is = ap (λ (q : Run). q .customized) (plain-left cs) ∙ g .customized-is;
+        squeezed-is = ap (λ (q : Run). q .squeezed) (plain-left cs) ∙ g .squeezed-is;
+        node-is = ap (λ (q : Run). q .node .position) (plain-left cs) ∙ first-is (g .positions-are);
+        leaf-is = ap (λ (q : Run). q .leaf .position) (plain-left cs) ∙ second-is (g .positions-are);
+        permutations-is = ap (λ (q : Run). q .permutations) (plain-left cs) ∙ third-is (g .positions-are);
       }
 
   pub five : Five rate chaining
@@ -177,8 +191,35 @@ module _ (rate chaining : ℕ) (pos : 0 < rate) where
     other-reached = λ r c h. to-code r (corollaries rate chaining pos .five .other-reached (seen r) c h);
   }
 
+  -- ---- the law of joining
+
+  refused-with : (r : Run) (n : ℕ) (x : Reply Run) → (n ≡ 100 → ⊥) → unlessRefused (statesStatus n) r x ≡ record { status = 12; bytes = []; left = r }
+  refused-with r n x h = rw (ne-eqb n 100 h)
+
+  pub joining : Joining rate chaining
+  unfolding answerAbreast replyOf
+  joining = record {
+    streams = streams-code rate chaining pos;
+    equal-transcripts = λ cs ds e. streams-code rate chaining pos cs .run ∙ ap (runTold rate chaining) e ∙ sym (streams-code rate chaining pos ds .run);
+    abreast-plain = λ r p. refl;
+    abreast-refused = λ r n p h. ap (λ (x : Reply Run). record { status = x .status; run = x .left }) (refused-with r n _ h);
+  }
+
+  pub one-go : OneGo rate chaining
+  unfolding abreastStatus abreastOutput hashOutput
+  one-go = record {
+    plain-status = λ m c n. refl;
+    plain-output = λ m c out. refl;
+    refused-status = λ k m c n h. sym (hash-12 k m c n h);
+    refused-output = λ k m c out h. sym (abreast-kept rate chaining k m c out (λ e. omega (arith, hash-12 k (length m) (length c) (length out) h, e)));
+  }
+
 pub strengths : Strengths
 strengths = record {
+  joining128 = joining 168 32 (omega arith);
+  joining256 = joining 136 64 (omega arith);
+  one-go128 = one-go 168 32 (omega arith);
+  one-go256 = one-go 136 64 (omega arith);
   counts128 = counts 168 32 (omega arith);
   counts256 = counts 136 64 (omega arith);
   five128 = five 168 32 (omega arith);

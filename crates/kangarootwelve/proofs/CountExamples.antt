@@ -8,6 +8,7 @@ use native.Mathlib.Omega.{arith}
 use lib.ListN.{length, length-append}
 use borrow.Author.Tests.{le-leb}
 use Rattle.sponge.specs.Transcript.{Call, Call.absorb, Call.customize, Call.finalize, Call.squeeze, Phase.absorbing, Phase.customizing, Phase.squeezing, Transcript, transcribe}
+use Rattle.sponge.specs.Lending.{plainly}
 use Rattle.sponge.specs.Waiting.{positionAfter, indexAfter}
 use Rattle.turboshake.specs.Transcript.{messageLimit, outputLimit}
 use Rattle.kangarootwelve.specs.Published.{chunk, lengthEncode, merged}
@@ -17,25 +18,25 @@ use Rattle.kangarootwelve.specs.Claims.{told, toldCount}
 use Rattle.kangarootwelve.specs.CountExamples.{after, Examples}
 use Rattle.kangarootwelve.proofs.Claims.{counts}
 
-by-totals : (cs : List (Call (List ℕ))) (t : Transcript (List ℕ)) (n : ℕ) → told 168 32 cs .left ≡ t → toldCount 168 32 t ≡ n → after cs ≡ n
-by-totals cs t n e f = counts 168 32 (omega arith) .totals cs ∙ ap (toldCount 168 32) e ∙ f
+by-totals : (cs : List (Call (List ℕ))) (t : Transcript (List ℕ)) (n : ℕ) → told 168 32 (plainly cs) .left ≡ t → toldCount 168 32 t ≡ n → after cs ≡ n
+by-totals cs t n e f = counts 168 32 (omega arith) .totals (plainly cs) ∙ ap (toldCount 168 32) e ∙ f
 
 -- the book after M alone, of n bytes; after M and C; and after M, the close without C, and k bytes read
-open-told : (m : List ℕ) → length m ≤ messageLimit → told 168 32 (absorb m ∷ []) .left ≡ record { absorbed = m; phase = absorbing; squeezed = 0 }
+open-told : (m : List ℕ) → length m ≤ messageLimit → told 168 32 (plainly (absorb m ∷ [])) .left ≡ record { absorbed = m; phase = absorbing; squeezed = 0 }
 unfolding transcribe rules
 open-told m l = rw (zero-add, le-leb (length m) messageLimit l)
 
 customized-told : (m c : List ℕ) → length m ≤ messageLimit → length c ≤ customizationLimit
-    → told 168 32 (absorb m ∷ customize c ∷ []) .left ≡ record { absorbed = m; phase = customizing c; squeezed = 0 }
+    → told 168 32 (plainly (absorb m ∷ customize c ∷ [])) .left ≡ record { absorbed = m; phase = customizing c; squeezed = 0 }
 unfolding transcribe rules
 customized-told m c l k = rw (zero-add, le-leb (length m) messageLimit l, zero-add, le-leb (length c) customizationLimit k)
 
-closed-told : (m : List ℕ) → length m ≤ messageLimit → told 168 32 (absorb m ∷ finalize [] ∷ []) .left ≡ record { absorbed = m; phase = squeezing []; squeezed = 0 }
+closed-told : (m : List ℕ) → length m ≤ messageLimit → told 168 32 (plainly (absorb m ∷ finalize [] ∷ [])) .left ≡ record { absorbed = m; phase = squeezing []; squeezed = 0 }
 unfolding transcribe rules customizationStatus
 closed-told m l = rw (zero-add, le-leb (length m) messageLimit l)
 
 read-told : (m c : List ℕ) (k : ℕ) → length m ≤ messageLimit → length c ≤ customizationLimit → k ≤ outputLimit
-    → told 168 32 (absorb m ∷ finalize c ∷ squeeze k ∷ []) .left ≡ record { absorbed = m; phase = squeezing c; squeezed = k }
+    → told 168 32 (plainly (absorb m ∷ finalize c ∷ squeeze k ∷ [])) .left ≡ record { absorbed = m; phase = squeezing c; squeezed = k }
 unfolding transcribe rules customizationStatus
 read-told m c k l n h = rw (zero-add, le-leb (length m) messageLimit l, le-leb (length c) customizationLimit n, zero-add, le-leb k outputLimit h)
 

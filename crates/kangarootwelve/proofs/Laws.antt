@@ -92,19 +92,19 @@ module _ (rate chaining : ℕ) where
     -- ---- the two positions and the number after each call
 
     -- before the close, after n bytes of S
-    abbrev Opened : ℕ → Nodes → Type 0
-    Opened n s = positions s ≡ finalDue rate chaining n ∷ leafDue rate n ∷ openKt rate chaining n ∷ []
+    abbrev FourOpen : ℕ → Nodes → Type 0
+    FourOpen n s = positions s ≡ finalDue rate chaining n ∷ leafDue rate n ∷ openKt rate chaining n ∷ []
 
-    pub fresh-due : Opened 0 freshNodes
+    pub fresh-due : FourOpen 0 freshNodes
     unfolding openKt
     fresh-due = refl
 
-    pub told-at : (n : ℕ) (s : Nodes) → Opened n s → After chunk (Told rate chaining pos) n (numberAt n s)
+    pub told-at : (n : ℕ) (s : Nodes) → FourOpen n s → After chunk (Told rate chaining pos) n (numberAt n s)
     unfolding openKt
     told-at n s e = record { position-is = refl; holds = record { places = record { index-is = refl; final-is = first-is e; leaf-is = second-is e }; count-is = third-is e } }
 
-    pub absorb-due : (n : ℕ) (s : Nodes) (p : List ℕ) (m : ℕ) → Opened n s
-        → Opened (n + length p) (nodesOf (absorbTree rate chaining (treeAt n s) p .value) m (countAbsorbed rate chaining (countedTreeAt n s) p))
+    pub absorb-due : (n : ℕ) (s : Nodes) (p : List ℕ) (m : ℕ) → FourOpen n s
+        → FourOpen (n + length p) (nodesOf (absorbTree rate chaining (treeAt n s) p .value) m (countAbsorbed rate chaining (countedTreeAt n s) p))
     unfolding openKt
     absorb-due n s p m e =
         let h = numbered-told rate chaining pos n (numberAt n s) p (told-at n s e) .holds in
@@ -116,10 +116,10 @@ module _ (rate chaining : ℕ) where
         let u : Tree = absorbTree rate chaining t (lengthEncode n) .value in
         close-position rate chaining (u .index) (u .final) (u .leaf)
 
-    finish-due : (n : ℕ) (s : Nodes) (m : ℕ) → Opened n s → countFinished rate chaining (countedTreeAt n s) m ≡ closedKt rate chaining n m 0
+    finish-due : (n : ℕ) (s : Nodes) (m : ℕ) → FourOpen n s → countFinished rate chaining (countedTreeAt n s) m ≡ closedKt rate chaining n m 0
     finish-due n s m e = run-finished rate chaining n s m ∙ finish-told rate chaining pos n m (numberAt n s) (told-at n s e)
 
-    finalize-due : (n : ℕ) (s : Nodes) (c : List ℕ) → Opened n s → countFinalized rate chaining (countedTreeAt n s) c ≡ closedKt rate chaining (n + length c) (length c) 0
+    finalize-due : (n : ℕ) (s : Nodes) (c : List ℕ) → FourOpen n s → countFinalized rate chaining (countedTreeAt n s) c ≡ closedKt rate chaining (n + length c) (length c) 0
     finalize-due n s c e = run-finalized rate chaining n s c ∙ finish-told rate chaining pos (n + length c) (length c) (numberTree rate chaining (numberAt n s) c) (numbered-told rate chaining pos n (numberAt n s) c (told-at n s e))
 
     after-due : (n m j k : ℕ) (s : Nodes) → s .final .position ≡ positionAfter rate j → s .permutations ≡ closedKt rate chaining n m j
@@ -249,7 +249,7 @@ module _ (rate chaining : ℕ) where
     -- ---- a run that 5 does not refuse stays one
 
     -- a customization piece in either phase that takes it
-    customize-stays : (s : Nodes) (h n k : ℕ) (p : List ℕ) → n ≤ messageLimit → k ≤ 0 → s .customized + length p ≤ customizationLimit → Opened (n + s .customized) s
+    customize-stays : (s : Nodes) (h n k : ℕ) (p : List ℕ) → n ≤ messageLimit → k ≤ 0 → s .customized + length p ≤ customizationLimit → FourOpen (n + s .customized) s
         → Shape (rules rate chaining) (machine rate chaining) positions (due rate chaining) (Fixed outputLimit) (worked (rules rate chaining) (machine rate chaining) (record { state = s; phase = h; absorbed = n; squeezed = k }) (customize p))
     unfolding rules machine
     customize-stays s h n k p a q m e = record {
@@ -267,7 +267,7 @@ module _ (rate chaining : ℕ) where
     unfolding rules machine customizationStatus
     stays-by s zero n k (absorb p) t e =
         let z : s .customized ≡ 0 = omega (arith, t .customized-fits) in
-        let g : Opened n s = rw (z, add-zero n) at (t .positions-due) in
+        let g : FourOpen n s = rw (z, add-zero n) at (t .positions-due) in
         record {
           phase-fits = zero-le;
           absorbed-fits = leb-true _ _ (cond-zero _ _ e);
@@ -280,7 +280,7 @@ module _ (rate chaining : ℕ) where
     stays-by s zero n k (finalize c) t e =
         let z : k ≡ 0 = omega (arith, t .squeezed-fits) in
         let y : s .customized ≡ 0 = omega (arith, t .customized-fits) in
-        let g : Opened n s = rw (y, add-zero n) at (t .positions-due) in
+        let g : FourOpen n s = rw (y, add-zero n) at (t .positions-due) in
         record {
           phase-fits = omega arith;
           absorbed-fits = t .absorbed-fits;

@@ -16,7 +16,11 @@ mod Nodes
 mod Tests
 mod Cases
 mod Numbers
+mod Abreast
+mod Values
 mod OneGo
+mod FourLeaves
+mod Feed
 mod Mac
 mod Examples
 pub mod Claims

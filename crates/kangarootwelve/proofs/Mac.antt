@@ -3,7 +3,7 @@
 use mathlib.Core.Path.{_≡_, refl, sym, ap, _∙_}
 use mathlib.Core.Bool.{Bool, false, cond, _&&_, and-true, and-assoc}
 use mathlib.Core.List.{List}
-use Prim.Native.Nat.{ℕ, zero, suc, _≤_, _<_}
+use Prim.Native.Nat.{ℕ, suc, _≤_, _<_}
 use native.Mathlib.Decide.{ℕ-discrete, decLe}
 use native.Mathlib.Omega.{arith}
 use borrow.Author.Tests.{eq-eqb, ne-eqb, le-leb, lt-leb}
@@ -12,7 +12,7 @@ use lib.Dec.{eqb, leb}
 use lib.ListN.{length, drop, getD, drop-of-length-le}
 use lib.Seq.{drop-cons}
 use Rattle.sponge.specs.Status.{done, outputTooLong, badLength, firstOf}
-use Rattle.sponge.specs.Transcript.{lent}
+use Rattle.sponge.proofs.Lent.{lent-refused}
 use Rattle.sponge.proofs.FirstStatus.{first-zero}
 use Rattle.turboshake.specs.Transcript.{messageLimit, outputLimit}
 use Rattle.kangarootwelve.specs.Published.{kt, hopmac}
@@ -143,11 +143,7 @@ module _ (rate chaining : ℕ) (key m c : List ℕ) where
   module _ (inner : ℕ) (out : List ℕ) where
     pub mac-refused : (macStatus (length key) (length m) (length c) (length out) ≡ 0 → ⊥) → out ≡ macOutput rate chaining inner key m c out
     unfolding macOutput
-    mac-refused h = by (macStatus (length key) (length m) (length c) (length out)) h
-      where
-        by : (s : ℕ) → (s ≡ 0 → ⊥) → out ≡ lent s (hopmac rate chaining inner key m c (length out)) out
-        by zero h = absurd (h refl)
-        by (suc s) h = refl
+    mac-refused h = lent-refused (macStatus (length key) (length m) (length c) (length out)) h (hopmac rate chaining inner key m c (length out)) out
 
     pub mac-written : macStatus (length key) (length m) (length c) (length out) ≡ 0 → hopmac rate chaining inner key m c (length out) ≡ macOutput rate chaining inner key m c out
     unfolding macOutput

@@ -47,7 +47,7 @@ module _ (rate : ℕ) (pos : 0 < rate) where
   -- ---- the positions of a tree stay within their bounds
 
   module _ (chaining : ℕ) where
-    end-fits : (t : At Tree) → Fits rate t → Fits rate (record { value = endChunk rate chaining (t .value); position = 0 })
+    pub end-fits : (t : At Tree) → Fits rate t → Fits rate (record { value = endChunk rate chaining (t .value); position = 0 })
     end-fits t h = record { final-fits = absorb-in (t .value .final) (ending rate chaining (t .value .index) (t .value .leaf)) (h .final-fits); leaf-fits = zero-le; position-fits = zero-le }
 
     -- what is known of the place of the next byte

@@ -11,9 +11,9 @@ use lib.ListN.{length, take, drop, replicate, length-append, length-take, length
 use lib.Seq.{take-all, take-append-le, drop-append-le, drop-drop}
 use Rattle.keccak.specs.Permutation.{permuted}
 use Rattle.sponge.specs.Waiting.{At}
-use Rattle.sponge.specs.Transcript.{lent}
 use Rattle.sponge.specs.Model.{Sponge, fresh, absorbBytes, squeezeBytes, Outcome, absorbCall, squeezeCall, squeezeOutput}
 use Rattle.sponge.proofs.Waiting.{steps-append, steps-over}
+use Rattle.sponge.proofs.Lent.{lent-refused, lent-done}
 use Rattle.sponge.proofs.Valid.{fits-valid, squeeze-done, output-done}
 use Rattle.turboshake.specs.Published.{turboshakeRounds, turboshake}
 use Rattle.hasher.specs.Model.{oneGoOutput}
@@ -23,8 +23,9 @@ use Rattle.turboshake.proofs.AtRate.{at-written}
 use Rattle.kangarootwelve.specs.Published.{chunk, marker, lengthEncode, merged, intermediateDomain, kt}
 use Rattle.kangarootwelve.specs.Transcript.{customizationLimit, customizationStatus}
 use Rattle.kangarootwelve.specs.Tree.{Tree, freshTree, putByte, ending, endChunk, absorbTree, closeTree, finalizeTree}
-use Rattle.kangarootwelve.specs.Model.{hashStatus, hashOutput}
-use Rattle.kangarootwelve.specs.Inside.{endedChunk, endedChunks}
+use Rattle.kangarootwelve.specs.Model.{hashStatus, hashOutput, abreastStatus, abreastOutput}
+use Rattle.kangarootwelve.specs.Inside.{treeOf, endedChunk, endedChunks}
+use Rattle.kangarootwelve.specs.declared.Place.{Place}
 use Rattle.kangarootwelve.proofs.Published.{chunk-is, chunk-pos, encode-pos, puts-is, squeeze-kt}
 use Rattle.kangarootwelve.proofs.Nodes.{fresh-is, absorb-in, absorbed-is}
 
@@ -67,15 +68,31 @@ hash-fits m c n e = by (decLe m messageLimit) (decLe c customizationLimit)
 module _ (rate chaining : ℕ) (m c out : List ℕ) where
   pub hash-refused : (hashStatus (length m) (length c) (length out) ≡ 0 → ⊥) → out ≡ hashOutput rate chaining m c out
   unfolding hashOutput
-  hash-refused h = by (hashStatus (length m) (length c) (length out)) h
-    where
-      by : (s : ℕ) → (s ≡ 0 → ⊥) → out ≡ lent s (kt rate chaining m c (length out)) out
-      by zero h = absurd (h refl)
-      by (suc s) h = refl
+  hash-refused h = lent-refused (hashStatus (length m) (length c) (length out)) h (kt rate chaining m c (length out)) out
 
   pub hash-written : hashStatus (length m) (length c) (length out) ≡ 0 → kt rate chaining m c (length out) ≡ hashOutput rate chaining m c out
   unfolding hashOutput
   hash-written e = rw e
+
+-- ---- with n words lent
+
+module _ (n m c k : ℕ) where
+  pub hash-12 : (n ≡ 100 → ⊥) → 12 ≡ abreastStatus n m c k
+  unfolding abreastStatus
+  hash-12 h = rw (ne-eqb n 100 h)
+
+  pub hash-100 : n ≡ 100 → hashStatus m c k ≡ abreastStatus n m c k
+  unfolding abreastStatus
+  hash-100 h = rw (eq-eqb n 100 h)
+
+module _ (rate chaining n : ℕ) (m c out : List ℕ) where
+  pub abreast-kept : (abreastStatus n (length m) (length c) (length out) ≡ 0 → ⊥) → out ≡ abreastOutput rate chaining n m c out
+  unfolding abreastOutput
+  abreast-kept h = lent-refused (abreastStatus n (length m) (length c) (length out)) h (kt rate chaining m c (length out)) out
+
+  pub abreast-written : abreastStatus n (length m) (length c) (length out) ≡ 0 → kt rate chaining m c (length out) ≡ abreastOutput rate chaining n m c out
+  unfolding abreastOutput
+  abreast-written e = lent-done (abreastStatus n (length m) (length c) (length out)) e (kt rate chaining m c (length out)) out
 
 -- what follows n chunks of the message, as it is lent
 pub part-rest : (n : ℕ) (m : List ℕ) → take (length m - n * 8192) (drop (n * 8192) m) ≡ drop (n * chunk) m
@@ -187,3 +204,14 @@ module _ (rate : ℕ) (pos : 0 < rate) (most : rate ≤ 200) where
               ∙ ap (squeezeBytes permuted rate (length out)) (closes ∙ ap (λ (x : At Tree). finalizeTree rate chaining x c) absorbs)
               ∙ squeeze-whole m c n (length out) h,
         )
+
+    -- from the tree of no bytes, whose place is q
+    pub whole-row : (m c out node : List ℕ) (q : Place) (t : At Tree) (o : Outcome) (r : List ℕ) → q ≡ record { node = 0; leaf = 0; index = 0; position = 0 }
+        → t ≡ absorbTree rate chaining (treeOf (replicate 25 0) (replicate 25 0) q) m → record { value = node; position = 0 } ≡ finalizeTree rate chaining t c
+        → o ≡ squeezeCall turboshakeRounds rate (record { value = node; position = 0 }) (length out) → r ≡ squeezeOutput turboshakeRounds rate (record { value = node; position = 0 }) out
+        → (o .status ≡ 0) × (r ≡ kt rate chaining m c (length out))
+    whole-row m c out node q t o r eq et =
+        let start : treeOf (replicate 25 0) (replicate 25 0) q ≡ record { value = freshTree; position = 0 } =
+        ap (treeOf (replicate 25 0) (replicate 25 0)) eq ∙ ap (λ (s : Sponge). record { value = record { final = s; leaf = s; index = 0 }; position = 0 }) fresh-is in
+        hash-row m c out node 0 t o r (rw zero-mul zero-le)
+        (et ∙ ap (λ (x : At Tree). absorbTree rate chaining x m) start ∙ ap (λ (n : ℕ). absorbTree rate chaining (record { value = freshTree; position = 0 }) (drop n m)) (sym (zero-mul chunk)))

@@ -10,11 +10,13 @@ use native.Mathlib.Omega.{arith}
 use lib.Dec.{leb}
 use lib.ListN.{length, replicate, length-replicate}
 use Rattle.sponge.specs.Status.{unreachable}
-use Rattle.sponge.specs.Transcript.{Call, Phase, Phase.absorbing, Phase.customizing, Phase.squeezing, phaseNumber, Transcript}
+use Rattle.sponge.specs.Transcript.{Call, Phase, Phase.absorbing, Phase.customizing, Phase.squeezing, phaseNumber, Transcript, freshTranscript, transcribe}
 use Rattle.sponge.specs.Runs.{Run, freshRun, perform, stateOf, runOf}
-use Rattle.sponge.specs.Streaming.{history, Streaming, told, ran}
+use Rattle.sponge.specs.Streaming.{History, history, joined, outputSo, Streams, Streaming, told, ran}
+use Rattle.sponge.specs.Lending.{CallWith, answerWith}
 use Rattle.sponge.specs.Callable.{Bytes, Slice}
 use Rattle.sponge.proofs.Streaming.{Fits}
+use Rattle.sponge.proofs.Lending.{held-with, streams-with}
 use Rattle.sponge.proofs.Corollaries as generic
 use Rattle.sponge.proofs.Corollaries.{Corollaries, history-held}
 use Rattle.sponge.proofs.Reachable.{Statuses, Fixed}
@@ -22,6 +24,7 @@ use Rattle.turboshake.specs.Transcript.{outputLimit}
 use Rattle.kangarootwelve.specs.Transcript.{customizationLimit, customizationStatus, customizedOf, rules, Callable}
 use Rattle.kangarootwelve.specs.Count.{countDue}
 use Rattle.kangarootwelve.specs.Model.{Nodes, machine, held, freshOf, answerOf, replyOf}
+use Rattle.kangarootwelve.specs.declared.Run as code
 use Rattle.kangarootwelve.proofs.Laws.{positions, due, customization-taken, shape, count-due, shaped, laws, stays}
 
 -- no C answers 5
@@ -95,21 +98,26 @@ module _ (rate chaining : ℕ) (pos : 0 < rate) where
       count-due rate chaining r (shape rate chaining r (laws rate chaining pos .run-reachable t h) .positions-due)
       ∙ ap (λ (c : ℕ). countDue rate chaining (phaseNumber (t .phase)) (length (t .absorbed) + c) c (t .squeezed)) (told-customized rate chaining t)
 
-  -- the list theorem on the code's own runs: `answerOf`, which the contracts cite, from `freshOf`
-  pub streaming-code : (cs : List (Call (List ℕ)))
-      → history (replyOf rate chaining) (freshOf rate chaining) cs ≡ record {
-        statuses = told (rules rate chaining) (machine rate chaining) cs .statuses;
-        bytes = told (rules rate chaining) (machine rate chaining) cs .bytes;
-        left = held (runOf (rules rate chaining) (machine rate chaining) (told (rules rate chaining) (machine rate chaining) cs .left));
-      }
+  -- ---- the list theorem on the code's own runs: `replyOf`, which the contracts cite, from `freshOf`, over calls that lend and calls that do not
+
+  pub history-code : (cs : List (CallWith (List ℕ)))
+      → let h : History (Run Nodes) = history (answerWith (perform (rules rate chaining) (machine rate chaining))) (freshRun (rules rate chaining) (machine rate chaining)) cs in
+      history (answerWith (replyOf rate chaining)) (freshOf rate chaining) cs ≡ record { statuses = h .statuses; bytes = h .bytes; left = held (h .left) }
   unfolding freshOf replyOf answerOf
-  streaming-code cs =
-      let s : Streaming (rules rate chaining) (machine rate chaining) cs = streaming cs in
-      history-held (perform (rules rate chaining) (machine rate chaining)) (replyOf rate chaining) held (λ r c. refl) cs (freshRun (rules rate chaining) (machine rate chaining))
-      ∙ rw (s .statuses, s .bytes, s .run)
+  history-code cs =
+      history-held (answerWith (perform (rules rate chaining) (machine rate chaining))) (answerWith (replyOf rate chaining)) held
+      (held-with (perform (rules rate chaining) (machine rate chaining)) (replyOf rate chaining) held (λ r c. refl)) cs (freshRun (rules rate chaining) (machine rate chaining))
 
-pub streaming128 : (cs : List (Call (List ℕ))) → Streaming (rules 168 32) (machine 168 32) cs
-streaming128 = streaming 168 32 (omega arith)
-
-pub streaming256 : (cs : List (Call (List ℕ))) → Streaming (rules 136 64) (machine 136 64) cs
-streaming256 = streaming 136 64 (omega arith)
+  pub streams-code : (cs : List (CallWith (List ℕ)))
+      → Streams (answerWith (replyOf rate chaining)) (answerWith (transcribe (rules rate chaining))) (λ t. held (runOf (rules rate chaining) (machine rate chaining) t)) (outputSo (rules rate chaining))
+      (freshOf rate chaining) freshTranscript cs
+  streams-code cs =
+      let s : Streams (answerWith (perform (rules rate chaining) (machine rate chaining))) (answerWith (transcribe (rules rate chaining))) (runOf (rules rate chaining) (machine rate chaining))
+      (outputSo (rules rate chaining)) (freshRun (rules rate chaining) (machine rate chaining)) freshTranscript cs = streams-with (rules rate chaining) (machine rate chaining) (laws rate chaining pos) cs in
+      let e = history-code cs in
+      record {
+        statuses = ap (λ (h : History code.Run). h .statuses) e ∙ s .statuses;
+        bytes = ap (λ (h : History code.Run). h .bytes) e ∙ s .bytes;
+        run = ap (λ (h : History code.Run). h .left) e ∙ ap held (s .run);
+        output = ap (λ (h : History code.Run). joined (h .bytes)) e ∙ s .output;
+      }

@@ -5,12 +5,13 @@ use mathlib.Core.List.{List, [], _∷_}
 use Prim.Native.Nat.{ℕ}
 use lib.ListN.{length}
 use Rattle.sponge.specs.Transcript.{Call, Call.absorb, Call.customize, Call.finalize, Call.squeeze}
+use Rattle.sponge.specs.Lending.{plainly}
 use Rattle.kangarootwelve.specs.Published.{merged}
 use Rattle.kangarootwelve.specs.Claims.{ran}
 
 -- the permutations of a run of KT128 after these calls
 abbrev pub after : List (Call (List ℕ)) → ℕ
-after cs = ran 168 32 cs .left .permutations
+after cs = ran 168 32 (plainly cs) .left .permutations
 
 pub record Examples : Type 0 where
   -- one block exactly full, and its next byte

@@ -1,11 +1,13 @@
 -- What the contracts of private functions say: a tree and a run from lent lanes and numbers.
 -- Assumes nothing.
 use mathlib.Core.List.{List}
-use mathlib.Core.Bool.{Bool, _&&_}
+use mathlib.Core.Bool.{Bool, cond, _&&_}
 use Prim.Native.Nat.{ℕ, zero, suc, _+_, _≤_}
 use lib.ListN.{take, drop}
-use lib.Dec.{eqb}
+use lib.Dec.{eqb, leb}
 use Rattle.sponge.specs.Waiting.{At, positionAfter, indexAfter}
+use Rattle.sponge.specs.Status.{done, inputTooLong, wrongPhase, unreachable}
+use Rattle.turboshake.specs.Transcript.{messageLimit}
 use Rattle.kangarootwelve.specs.Published.{chunk}
 use Rattle.kangarootwelve.specs.Tree.{Tree, putTo, endChunk}
 use Rattle.kangarootwelve.specs.Count.{openKt}
@@ -51,6 +53,10 @@ abbrev pub openDue : ℕ → ℕ → Progress → Bool
 openDue rate chaining p =
     eqb (p .node) (finalDue rate chaining (p .absorbed + p .customized))
     && (eqb (p .leaf) (leafDue rate (p .absorbed + p .customized)) && eqb (p .permutations) (openKt rate chaining (p .absorbed + p .customized)))
+
+-- the status of a message feed of n bytes, by what a run holds beside its lanes
+unfoldable pub feedStatus : ℕ → ℕ → Progress → ℕ → ℕ
+feedStatus rate chaining p n = cond (reachedAt rate chaining p) (cond (eqb (p .phase) 0) (cond (leb (p .absorbed + n) messageLimit) done inputTooLong) wrongPhase) unreachable
 
 -- a run and an answer from their parts
 abbrev pub runWith : List ℕ → List ℕ → Progress → Run

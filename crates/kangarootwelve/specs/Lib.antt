@@ -4,6 +4,7 @@ pub mod Tree
 pub mod Count
 pub mod Model
 pub mod Inside
+pub mod Leaves
 pub mod Mac
 pub mod Claims
 pub mod CountExamples

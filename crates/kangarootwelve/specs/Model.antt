@@ -6,11 +6,13 @@ use Prim.Native.Nat.{ℕ, zero, suc, _+_, _-_, _*_}
 use lib.ListN.{length, replicate}
 use lib.Dec.{eqb, leb}
 use Rattle.keccak.specs.Permutation.{permuted}
+use Rattle.abreast.specs.Four.{statesStatus}
 use Rattle.sponge.specs.Waiting.{At, positionAfter, indexAfter}
 use Rattle.sponge.specs.Model.{Sponge, fresh, squeezeBytes, afterBytes}
 use Rattle.sponge.specs.Count.{counted, countedFrom}
 use Rattle.sponge.specs.Status.{done, inputTooLong, outputTooLong, badLength, firstOf}
-use Rattle.sponge.specs.Transcript.{Call, Call.squeeze, Reply, lent}
+use Rattle.sponge.specs.Transcript.{Call, Call.absorb, Call.squeeze, Reply, lent}
+use Rattle.sponge.specs.Lending.{Lending.words, CallWith, answerWith}
 use Rattle.sponge.specs.Runs as runs
 use Rattle.sponge.specs.Runs.{Machine, freshRun, perform}
 use Rattle.turboshake.specs.Transcript.{messageLimit, outputLimit}
@@ -160,6 +162,23 @@ answer128 h c = record { status = answerOf 168 32 (h .run) c .status; hasher = r
 abbrev pub answer256 : Kt256 → Call (List ℕ) → Answer256
 answer256 h c = record { status = answerOf 136 64 (h .run) c .status; hasher = record { run = answerOf 136 64 (h .run) c .run } }
 
+-- a message feed that lends n words for four leaves abreast (request Q-6): what it answers, and in the types of each strength
+abbrev pub absorbWith : ℕ → List ℕ → CallWith (List ℕ)
+absorbWith n p = record { call = absorb p; lending = words n }
+
+unfoldable pub answerAbreast : ℕ → ℕ → Run → ℕ → List ℕ → Answer
+answerAbreast rate chaining r n p = record { status = answerWith (replyOf rate chaining) r (absorbWith n p) .status; run = answerWith (replyOf rate chaining) r (absorbWith n p) .left }
+
+abbrev pub abreast128 : Kt128 → ℕ → List ℕ → Answer128
+abreast128 h n p = record { status = answerAbreast 168 32 (h .run) n p .status; hasher = record { run = answerAbreast 168 32 (h .run) n p .run } }
+
+abbrev pub abreast256 : Kt256 → ℕ → List ℕ → Answer256
+abreast256 h n p = record { status = answerAbreast 136 64 (h .run) n p .status; hasher = record { run = answerAbreast 136 64 (h .run) n p .run } }
+
+-- what the lent words hold after a call with this status, which held s before: zeros where it is done
+abbrev pub statesAfter : ℕ → List ℕ → List ℕ
+statesAfter status s = lent status (replicate (length s) 0) s
+
 -- what the lent output holds after a squeeze, which held `out` before
 unfoldable pub outputOf : ℕ → ℕ → Run → List ℕ → List ℕ
 outputOf rate chaining r out =
@@ -178,6 +197,13 @@ hashStatus m c n =
 -- what the lent output holds after the call
 unfoldable pub hashOutput : ℕ → ℕ → List ℕ → List ℕ → List ℕ → List ℕ
 hashOutput rate chaining m c out = lent (hashStatus (length m) (length c) (length out)) (kt rate chaining m c (length out)) out
+
+-- with n words lent: 12 before all others
+unfoldable pub abreastStatus : ℕ → ℕ → ℕ → ℕ → ℕ
+abreastStatus n m c k = firstOf (statesStatus n) (hashStatus m c k)
+
+unfoldable pub abreastOutput : ℕ → ℕ → ℕ → List ℕ → List ℕ → List ℕ → List ℕ
+abreastOutput rate chaining n m c out = lent (abreastStatus n (length m) (length c) (length out)) (kt rate chaining m c (length out)) out
 
 -- ---- length_encode
 

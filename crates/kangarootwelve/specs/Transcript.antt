@@ -7,6 +7,7 @@ use lib.ListN.{length}
 use lib.Dec.{leb}
 use Rattle.sponge.specs.Status.{done, customizationTooLong}
 use Rattle.sponge.specs.Callable.{Slice}
+use Rattle.sponge.specs.Lending.{Lending, Lending.nothing, Lending.words, CallWith}
 use Rattle.sponge.specs.Transcript.{Call, Call.absorb, Call.customize, Call.finalize, Call.finish, Call.squeeze, Phase, Phase.absorbing, Phase.customizing, Phase.squeezing, Customization.upTo, Rules}
 use Rattle.turboshake.specs.Transcript.{messageLimit, outputLimit}
 use Rattle.kangarootwelve.specs.Published.{kt}
@@ -32,6 +33,18 @@ Callable (customize p) = Slice p
 Callable (finalize c) = Slice c
 Callable finish = Unit {0}
 Callable (squeeze k) = k < 2 ^ 63
+
+-- and with a slice: that of a message feed alone, of fewer words than 2^60
+abbrev pub Lends : Call (List ℕ) → Lending → Type 0
+Lends c nothing = Unit {0}
+Lends (absorb p) (words n) = n < 2 ^ 60
+Lends (customize p) (words n) = ⊥
+Lends (finalize c) (words n) = ⊥
+Lends finish (words n) = ⊥
+Lends (squeeze k) (words n) = ⊥
+
+abbrev pub CallableWith : CallWith (List ℕ) → Type 0
+CallableWith c = Callable (c .call) × Lends (c .call) (c .lending)
 
 -- the published function, the status of C, and the limits; any piece is taken; C is taken in pieces too, and is what they are, joined; the
 -- bytes absorbed are those of M alone

@@ -2,15 +2,15 @@
 ghost use mathlib.Core.Path.{_≡_};
 ghost use mathlib.Core.List.{List};
 ghost use mathlib.Core.Bool.{true, cond};
-ghost use Prim.Native.Nat.{ℕ, _+_, _^_, _<_, _≤_};
+ghost use Prim.Native.Nat.{ℕ, _+_, _%_, _^_, _<_, _≤_};
 ghost use lib.ListN.{length};
 ghost use lib.Dec.{eqb};
 ghost use Rattle.sponge.specs.Transcript.{Call};
 ghost use Rattle.turboshake.specs.Transcript.{messageLimit, outputLimit};
 ghost use Rattle.kangarootwelve.specs.Transcript.{customizationLimit};
 ghost use Rattle.kangarootwelve.specs.Count.{openKt, closedKt};
-ghost use Rattle.kangarootwelve.specs.Model.{freshOf, answerOf, outputOf};
-ghost use Rattle.kangarootwelve.specs.Inside.{progressOf, placeOf, openDue, runWith, answered};
+ghost use Rattle.kangarootwelve.specs.Model.{freshOf, answerOf, answerAbreast, statesAfter, outputOf};
+ghost use Rattle.kangarootwelve.specs.Inside.{progressOf, placeOf, openDue, feedStatus, runWith, answered};
 use crate::ABSORBING;
 use crate::CUSTOMIZATION_LIMIT;
 use crate::CUSTOMIZING;
@@ -20,6 +20,7 @@ use crate::Progress;
 use crate::Run;
 use crate::SQUEEZING;
 use crate::State;
+use crate::fours;
 use crate::reached;
 use crate::totals;
 use crate::tree;
@@ -135,6 +136,38 @@ fn count_after(rate: usize, chaining: usize, at: Progress, from: Place, more: us
     totals::open_kt(rate, chaining, at.absorbed + at.customized + more as u64)
 }
 
+// The status of a message feed of so many bytes.
+fn absorb_status(rate: usize, chaining: usize, at: Progress, more: usize) -> u8
+    requires { ⌜ (0 < rate) × (chaining ≤ 64) × (more < 2 ^ 63) ⌝ }
+    ensures { λ r. ⌜ r ≡ feedStatus rate chaining at more ⌝ }
+{
+    if !reached::is_open(rate, chaining, at) {
+        return reached::status_if_not_open(rate, chaining, at);
+    }
+    if at.phase != ABSORBING {
+        return status::WRONG_PHASE;
+    }
+    if MESSAGE_LIMIT < at.absorbed + more as u64 {
+        return status::INPUT_TOO_LONG;
+    }
+    status::DONE
+}
+
+// What a message feed that is done leaves beside the lanes.
+fn absorbed(at: Progress, after: Place, total: u64, counted: u64) -> Moved
+    ensures { λ r. ⌜ r ≡ record { at = record { node = after .node; leaf = after .leaf; phase = at .phase; absorbed = total; customized = at .customized; squeezed = at .squeezed; permutations = counted }; status = 0 } ⌝ }
+{
+    let mut next = at;
+    next.node = after.node;
+    next.leaf = after.leaf;
+    next.absorbed = total;
+    next.permutations = counted;
+    Moved {
+        at: next,
+        status: status::DONE,
+    }
+}
+
 pub(crate) fn absorb(
     rate: usize,
     chaining: usize,
@@ -146,28 +179,42 @@ pub(crate) fn absorb(
     requires { ⌜ (0 < rate) × (rate ≤ 200) × (chaining ≤ 64) ⌝ }
     ensures { λ r. ⌜ answered r (now (node .exit)) (now (leaf .exit)) ≡ answerOf rate chaining (runWith (now (node .entry)) (now (leaf .entry)) at) (Call.absorb (now (piece .entry))) ⌝ }
 {
-    if !reached::is_open(rate, chaining, at) {
-        return refused(reached::status_if_not_open(rate, chaining, at), at);
-    }
-    if at.phase != ABSORBING {
-        return refused(status::WRONG_PHASE, at);
-    }
-    let total = at.absorbed + piece.len() as u64;
-    if MESSAGE_LIMIT < total {
-        return refused(status::INPUT_TOO_LONG, at);
+    let refusal = absorb_status(rate, chaining, at, piece.len());
+    if refusal != status::DONE {
+        return refused(refusal, at);
     }
     let from = place(at);
     let counted = count_after(rate, chaining, at, from, piece.len());
     let after = tree::absorb(rate, chaining, node, leaf, from, piece);
-    let mut next = at;
-    next.node = after.node;
-    next.leaf = after.leaf;
-    next.absorbed = total;
-    next.permutations = counted;
-    Moved {
-        at: next,
-        status: status::DONE,
+    absorbed(at, after, at.absorbed + piece.len() as u64, counted)
+}
+
+// The same with every four leaves that lie whole in the piece abreast, in the lent words.
+pub(crate) fn absorb_abreast(
+    rate: usize,
+    chaining: usize,
+    node: &mut [u64; 25],
+    leaf: &mut [u64; 25],
+    at: Progress,
+    piece: &[u8],
+    states: &mut [u64],
+) -> Moved
+    requires { ⌜ (0 < rate) × (rate ≤ 200) × (chaining ≤ 64) × (rate % 8 ≡ 0) × (chaining % 8 ≡ 0) × (chaining ≤ rate) ⌝ }
+    ensures { λ r. ⌜ answered r (now (node .exit)) (now (leaf .exit)) ≡ answerAbreast rate chaining (runWith (now (node .entry)) (now (leaf .entry)) at) (length (now (states .entry))) (now (piece .entry)) ⌝ }
+    ensures { λ r. ⌜ now (states .exit) ≡ statesAfter (r .status) (now (states .entry)) ⌝ }
+{
+    if states.len() != 100 {
+        return refused(status::BAD_STATES, at);
     }
+    let refusal = absorb_status(rate, chaining, at, piece.len());
+    if refusal != status::DONE {
+        return refused(refusal, at);
+    }
+    abreast::clear(states);
+    let from = place(at);
+    let counted = count_after(rate, chaining, at, from, piece.len());
+    let after = fours::absorb(rate, chaining, node, leaf, from, piece, states);
+    absorbed(at, after, at.absorbed + piece.len() as u64, counted)
 }
 
 pub(crate) fn customize(

@@ -1,12 +1,14 @@
 // KT128 and KT256: draft-irtf-cfrg-kangarootwelve-16, section 3, in one go and in pieces. HopMAC128 and HopMAC256, section 4, in one go,
 // and their tag check.
 //
-// A type for each strength, whose calls stand in `strength128` and `strength256`; what they share stands in `by_value`, `calls`, `reached`, `totals`, `tree`, `one_go`, `encode` and `hopmac`,
-// over the rate, the length of a chaining value and that of an inner digest.
+// A type for each strength, whose calls stand in `strength128` and `strength256`; what they share stands in `by_value`, `calls`, `reached`, `totals`, `tree`, `fours`, `leaves`,
+// `one_go`, `encode` and `hopmac`, over the rate, the length of a chaining value and that of an inner digest.
 mod by_value;
 mod calls;
 mod encode;
+mod fours;
 mod hopmac;
+mod leaves;
 mod one_go;
 mod reached;
 mod strength128;
@@ -79,6 +81,12 @@ struct Place {
     leaf: usize,
     index: u64,
     position: usize,
+}
+
+// The positions of the final node and of the leaf that four chunks leave, the last of them open.
+struct FourOpen {
+    node: usize,
+    leaf: usize,
 }
 
 // A run of KT128.

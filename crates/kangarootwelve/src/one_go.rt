@@ -1,16 +1,17 @@
 // KT in one go. A chunk that lies wholly in the message is hashed where it lies; the chunks that the customization string and its
-// length touch go through the tree.
+// length touch go through the tree, and where words are lent also S_0 and the leaves that are left over of fours.
 ghost use mathlib.Core.Path.{_≡_};
-ghost use Prim.Native.Nat.{suc, _<_, _≤_, _*_};
+ghost use Prim.Native.Nat.{suc, _<_, _≤_, _*_, _%_};
 ghost use lib.ListN.{length};
 ghost use Rattle.keccak.specs.Permutation.{permuted};
 ghost use Rattle.sponge.specs.Model.{fresh, absorbBytes};
 ghost use Rattle.turboshake.specs.Published.{turboshake};
 ghost use Rattle.kangarootwelve.specs.Published.{intermediateDomain};
-ghost use Rattle.kangarootwelve.specs.Model.{hashStatus, hashOutput};
+ghost use Rattle.kangarootwelve.specs.Model.{hashStatus, hashOutput, abreastStatus, abreastOutput, statesAfter};
 ghost use Rattle.kangarootwelve.specs.Inside.{endedChunk, endedChunks};
 use crate::CUSTOMIZATION_LIMIT;
 use crate::Place;
+use crate::fours;
 use crate::tree;
 use sponge::status;
 use turboshake::MESSAGE_LIMIT;
@@ -133,6 +134,41 @@ pub(crate) fn hash(
     };
     let from = whole * tree::CHUNK;
     let last = tree::absorb(rate, chaining, &mut node, &mut leaf, at, &message[from..]);
+    tree::finalize(rate, chaining, &mut node, &mut leaf, last, customization);
+    let squeezed = sponge::squeeze(&mut node, 0, rate, turboshake::ROUNDS, out);
+    squeezed.status
+}
+
+// The same with every four leaves that lie whole in the message, from S_1 on, abreast in the lent words.
+pub(crate) fn hash_abreast(
+    rate: usize,
+    chaining: usize,
+    message: &[u8],
+    customization: &[u8],
+    out: &mut [u8],
+    states: &mut [u64],
+) -> u8
+    requires { ⌜ (0 < rate) × (rate ≤ 200) × (chaining ≤ 64) × (rate % 8 ≡ 0) × (chaining % 8 ≡ 0) × (chaining ≤ rate) ⌝ }
+    ensures { λ r. ⌜ r ≡ abreastStatus (length (now (states .entry))) (length (now (message .entry))) (length (now (customization .entry))) (length (now (out .entry))) ⌝ }
+    ensures { λ r. ⌜ now (out .exit) ≡ abreastOutput rate chaining (length (now (states .entry))) (now (message .entry)) (now (customization .entry)) (now (out .entry)) ⌝ }
+    ensures { λ r. ⌜ now (states .exit) ≡ statesAfter r (now (states .entry)) ⌝ }
+{
+    if states.len() != 100 {
+        return status::BAD_STATES;
+    }
+    let refusal = hash_status(
+        message.len() as u64,
+        customization.len() as u64,
+        out.len() as u64,
+    );
+    if refusal != status::DONE {
+        return refusal;
+    }
+    abreast::clear(states);
+    let mut node = [0u64; 25];
+    let mut leaf = [0u64; 25];
+    let first = tree::opened(0, 0);
+    let last = fours::absorb(rate, chaining, &mut node, &mut leaf, first, message, states);
     tree::finalize(rate, chaining, &mut node, &mut leaf, last, customization);
     let squeezed = sponge::squeeze(&mut node, 0, rate, turboshake::ROUNDS, out);
     squeezed.status

@@ -26,7 +26,7 @@ pub(crate) const INTERMEDIATE_NODE: u8 = 0x0B;
 
 const FINAL_NODE: u8 = 0x06;
 
-fn least(x: usize, y: usize) -> usize
+pub(crate) fn least(x: usize, y: usize) -> usize
     ensures { λ r. ⌜ r ≡ min x y ⌝ }
 {
     if x < y { x } else { y }
@@ -51,7 +51,7 @@ fn absorb_value(
 }
 
 // The place of the first byte of a new chunk.
-fn opened(node: usize, index: u64) -> Place
+pub(crate) fn opened(node: usize, index: u64) -> Place
     ensures { λ r. ⌜ r ≡ record { node = node; leaf = 0; index = index; position = 0 } ⌝ }
 {
     Place {
@@ -63,7 +63,7 @@ fn opened(node: usize, index: u64) -> Place
 }
 
 // Ends a full chunk, of which another follows: the final node gets the marker or the leaf's chaining value, and the leaf is fresh.
-fn end_chunk(
+pub(crate) fn end_chunk(
     rate: usize,
     chaining: usize,
     node: &mut [u64; 25],
