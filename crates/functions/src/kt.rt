@@ -3,8 +3,8 @@
 ghost use mathlib.Core.Path.{_≡_};
 ghost use lib.ListN.{length};
 ghost use Rattle.sponge.specs.Transcript.{Call};
-ghost use Rattle.kangarootwelve.specs.Model.{freshOf, outputOf, hashStatus, hashOutput};
-ghost use Rattle.functions.specs.Kt.{rateOf, chainingOf, answerIn};
+ghost use Rattle.kangarootwelve.specs.Model.{freshOf, statesAfter, outputOf, hashStatus, hashOutput, abreastStatus, abreastOutput};
+ghost use Rattle.functions.specs.Kt.{rateOf, chainingOf, answerIn, abreastIn};
 use kangarootwelve::Answer128;
 use kangarootwelve::Answer256;
 use kangarootwelve::Kt128;
@@ -62,6 +62,17 @@ pub fn absorb(function: KtFunction, run: Run, piece: &[u8]) -> KtAnswer
     }
 }
 
+// A piece of the message, with words lent for four leaves abreast.
+pub fn absorb_abreast(function: KtFunction, run: Run, piece: &[u8], states: &mut [u64]) -> KtAnswer
+    ensures { λ r. ⌜ r ≡ abreastIn function run (length (now (states .entry))) (now (piece .entry)) ⌝ }
+    ensures { λ r. ⌜ now (states .exit) ≡ statesAfter (r .status) (now (states .entry)) ⌝ }
+{
+    match function {
+        KtFunction::Kt128 => answer_of_128(Kt128 { run }.absorb_abreast(piece, states)),
+        KtFunction::Kt256 => answer_of_256(Kt256 { run }.absorb_abreast(piece, states)),
+    }
+}
+
 // A piece of the customization string. The first one, even an empty one, ends the message.
 pub fn customize(function: KtFunction, run: Run, piece: &[u8]) -> KtAnswer
     ensures { λ r. ⌜ r ≡ answerIn function run (Call.customize (now (piece .entry))) ⌝ }
@@ -109,5 +120,23 @@ pub fn hash(function: KtFunction, message: &[u8], customization: &[u8], out: &mu
     match function {
         KtFunction::Kt128 => Kt128::hash(message, customization, out),
         KtFunction::Kt256 => Kt256::hash(message, customization, out),
+    }
+}
+
+// In one go, with words lent for four leaves abreast.
+pub fn hash_abreast(
+    function: KtFunction,
+    message: &[u8],
+    customization: &[u8],
+    out: &mut [u8],
+    states: &mut [u64],
+) -> u8
+    ensures { λ r. ⌜ r ≡ abreastStatus (length (now (states .entry))) (length (now (message .entry))) (length (now (customization .entry))) (length (now (out .entry))) ⌝ }
+    ensures { λ r. ⌜ now (out .exit) ≡ abreastOutput (rateOf function) (chainingOf function) (length (now (states .entry))) (now (message .entry)) (now (customization .entry)) (now (out .entry)) ⌝ }
+    ensures { λ r. ⌜ now (states .exit) ≡ statesAfter r (now (states .entry)) ⌝ }
+{
+    match function {
+        KtFunction::Kt128 => Kt128::hash_abreast(message, customization, out, states),
+        KtFunction::Kt256 => Kt256::hash_abreast(message, customization, out, states),
     }
 }
