@@ -2,14 +2,15 @@
 """Writes crates/replay/stdin, a short list of calls, and crates/replay/stdout, the lines that the program `replay` must answer.
 
 Each status is written out here, by document 01's table and requests Q-2, Q-5 and Q-10, and so are the small numbers of permutations; those at
-the limits are the formula's, the bytes and the lanes the second program's. sp800_185_sample.py has the calls of request Q-14.
+the limits are the formula's, the bytes and the lanes the second program's. sp800_185_sample.py has the calls of request Q-14, lent_sample.py those of Q-6.
 """
 from pathlib import Path
 
+import lent_sample
 import reference
 import sp800_185_sample
 from permutation_formula import kt_open, sponge_closed, sponge_open
-from sample_lines import counted, field, record, run_line
+from sample_lines import counted, field, lanes_after, record, run_line
 
 CRATE = Path(__file__).resolve().parent.parent / "crates/replay"
 LIMIT, READ_LIMIT, CUSTOM_LIMIT = 17_179_869_183, 4_294_967_295, 16_777_215
@@ -67,16 +68,6 @@ def hopmac(strength, key, custom, size, message):
 
 def tag_check(strength, tag, key, custom, message):
     return record("V", bytes([strength]) + counted(tag) + counted(key) + counted(custom) + message)
-
-
-def lanes_after(data):
-    """The lanes once these bytes are in, at the rate 168; the last block, a full one too, is not yet permuted."""
-    lanes = [0] * 25
-    for at in range(0, len(data), 168):
-        if at:
-            lanes = reference.keccak_p(lanes, 12)
-        lanes = [v ^ w for v, w in zip(lanes, reference.state_of(data[at : at + 168].ljust(200, b"\0")))]
-    return lanes
 
 
 def lanes_closed(node, domain):
@@ -338,6 +329,7 @@ SAMPLE = [
     (rounds(25, MESSAGE[:200]), "16 " + MESSAGE[:200].hex()),
     (rounds(255, bytes(200)), "16 " + bytes(200).hex()),
     *sp800_185_sample.SAMPLE,
+    *lent_sample.SAMPLE,
     (record("Z"), "bad record"),
     # nothing is answered after that
     (record("N", b"\0"), None),

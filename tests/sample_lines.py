@@ -1,4 +1,5 @@
 """The records and the lines that the list of calls of make_replay_sample.py is made of."""
+import reference
 
 
 def counted(data, n=None):
@@ -15,3 +16,13 @@ def field(number, value):
 
 def run_line(phase, *numbers):
     return f"{phase:02x} " + " ".join(f"{v:016x}" for v in numbers)
+
+
+def lanes_after(data):
+    """The lanes once these bytes are in, at the rate 168; the last block, a full one too, is not yet permuted."""
+    lanes = [0] * 25
+    for at in range(0, len(data), 168):
+        if at:
+            lanes = reference.keccak_p(lanes, 12)
+        lanes = [v ^ w for v, w in zip(lanes, reference.state_of(data[at : at + 168].ljust(200, b"\0")))]
+    return lanes

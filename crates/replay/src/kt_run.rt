@@ -2,6 +2,7 @@
 ghost use Prim.Native.Nat.{_+_, _*_, _≤_};
 ghost use lib.ListN.{length};
 use crate::field;
+use crate::lent;
 use crate::line;
 use crate::number;
 use crate::session;
@@ -85,6 +86,7 @@ pub fn answer(
     let given = session.kt_run;
     match op {
         b'A' => answered(session, functions::kt::absorb(function, given, payload)),
+        b'a' => lent::absorb(session, function, payload),
         b'C' => answered(session, functions::kt::customize(function, given, payload)),
         b'F' => answered(session, functions::kt::finalize(function, given, payload)),
         b'E' => finish(session, function, payload),

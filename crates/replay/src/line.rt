@@ -122,16 +122,23 @@ pub fn write_status(status: u8) -> bool {
     io::print_decimal(STDOUT_FILENO, status as u64) && io::write_all(STDOUT_FILENO, b"\n")
 }
 
-// Writes the status, a space and the bytes.
-pub fn write_output(status: u8, out: &[u8], text: &mut [u8]) -> bool
+// Writes the status, a space, the bytes and a last character.
+pub fn write_ended(status: u8, out: &[u8], last: u8, text: &mut [u8]) -> bool
     requires { ⌜ 2 * length (now out) + 2 ≤ length (now text) ⌝ }
 {
     let end = 2 * out.len() + 1;
     put(text, 0, b' ');
     put_digits(text, 1, out);
-    put(text, end, b'\n');
+    put(text, end, last);
     io::print_decimal(STDOUT_FILENO, status as u64)
         && io::write_all(STDOUT_FILENO, &text[0..end + 1])
+}
+
+// Writes the status, a space and the bytes.
+pub fn write_output(status: u8, out: &[u8], text: &mut [u8]) -> bool
+    requires { ⌜ 2 * length (now out) + 2 ≤ length (now text) ⌝ }
+{
+    write_ended(status, out, b'\n', text)
 }
 
 // Writes the status, a space and `yes` or `no`.

@@ -6,6 +6,8 @@
 //
 //   N  1 byte function                                          a fresh run in hand                  fresh
 //   A  the piece, or the event                                  absorb, or append                    status
+//   a  2 bytes words, the piece                                 absorb, of KT, with so many          status, the words
+//                                                               words lent
 //   C  a piece of KT's customization string, or of the          customize                            status
 //      station's name
 //   F  TurboSHAKE's domain byte, KT's customization string,     finalize                             status
@@ -18,6 +20,7 @@
 //   T  1 byte function, 1 byte domain byte, 4 bytes L, message  L bytes of TurboSHAKE in one go      as R
 //   K  1 byte function, 4 bytes L, 4 bytes length of the        L bytes of KT in one go              as R
 //      customization string, that string, message
+//   k  2 bytes words, then as K                                 the same with so many words lent     status, the buffer, the words
 //   H  1 byte strength, 4 bytes L, 4 bytes length of the key,   L bytes of HopMAC in one go          as R
 //      the key, 4 bytes length of the customization string,
 //      that string, message
@@ -35,6 +38,9 @@
 // 8 SHA3-512, 9 SHAKE128, 10 SHAKE256, 11 cSHAKE128, 12 cSHAKE256, 13 KMAC128, 14 KMAC256, 15 KMACXOF128, 16 KMACXOF256: those of SP 800-185,
 // from 11 on, begin with a start, not with N. The strengths are 0 for 128, 1 for 256.
 //
+// At most 300 words are lent, and A5 is in every byte of them. The line ends with what they hold after the call: `kept`, which is also said
+// where there are none, `zero` or `other`.
+//
 // The input's end before a record ends the program. Any other record, or one that does not fit: `bad record`, and the end.
 mod by_number;
 mod field;
@@ -43,6 +49,7 @@ mod journal_run;
 mod keyed_one_go;
 mod keyed_run;
 mod kt_run;
+mod lent;
 mod line;
 mod number;
 mod one_go;
@@ -97,6 +104,7 @@ fn answer(session: Session, op: u8, payload: &[u8], out: &mut [u8], text: &mut [
         b'B' => one_go::without_domain(session, payload, out, text),
         b'P' => permutation::permute(session, payload, out, text),
         b'K' => one_go::kt(session, payload, out, text),
+        b'k' => lent::hash(session, payload, out, text),
         b'H' => hopmac::tag(session, payload, out, text),
         b'V' => hopmac::verify(session, payload),
         _ => answer_run(session, op, payload, text),

@@ -8,6 +8,13 @@ fn wide(byte: u8) -> u64
     byte as u64
 }
 
+// The two bytes from `at` on.
+pub fn of_two(bytes: &[u8], at: usize) -> u64
+    requires { ⌜ at + 2 ≤ length (now bytes) ⌝ }
+{
+    wide(bytes[at]) * 0x100 + wide(bytes[at + 1])
+}
+
 // The four bytes from `at` on.
 pub fn of_four(bytes: &[u8], at: usize) -> u64
     requires { ⌜ at + 4 ≤ length (now bytes) ⌝ }

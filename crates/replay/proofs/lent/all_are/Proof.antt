@@ -1,0 +1,19 @@
+-- `replay::lent::all_are` is safe and ends. The measure is the number of words not yet looked at.
+-- Assumes nothing.
+use Prim.Native.Nat.{_-_}
+use lib.ListN.{length}
+use borrow.Author.Needs.{needs}
+use Rattle.replay.proofs.lent.all_are.Statement.{statement}
+use Rattle.replay.proofs.lent.all_are.Tie as tie
+
+abbrev Inv-loop : tie.InvT-loop
+Inv-loop words value i₀ i = Unit
+
+abbrev μ-loop : tie.MeasureT-loop
+μ-loop words value i₀ i = length words - i
+
+pub all-are-spec : {M : Type 1} → statement M
+all-are-spec =
+    tie.close
+    (tie.spec Inv-loop μ-loop (λ c. search needs) (λ c. search needs) (λ c. search needs) (λ c. search needs) (λ c. search needs)
+    (λ c. search needs) (λ c. search needs) (λ c. search needs))
