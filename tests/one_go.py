@@ -5,7 +5,7 @@ Written from documents 01 and 02 and the draft, as transcript.py is, which says 
 """
 import reference
 from started_transcript import start_status
-from transcript import BAD_SIZE, CHAINING, DONE, TOO_LONG, TOO_MUCH, Limits, custom_status, domain_status, read_limit
+from transcript import BAD_SIZE, CHAINING, DONE, TOO_LONG, TOO_MUCH, Limits, custom_status, domain_status, lent_status, read_limit
 
 HOPMAC = {0: reference.hopmac128, 1: reference.hopmac256}  # by the number of the strength
 LONGEST_TAG = 64  # of those that the tag check takes
@@ -49,6 +49,16 @@ def permutation(rounds, state):
 def kt(rate, message, custom, size):
     status = kt_status(len(message), len(custom), size)
     return status, reference.kangarootwelve(rate, CHAINING[rate], message, custom, size) if status == DONE else None
+
+
+def kt_lent_status(words, message_size, custom_size, size):
+    """The status of a KT call in one go that lends so many words: 12, then as of the plain call."""
+    return lent_status(words) or kt_status(message_size, custom_size, size)
+
+
+def kt_lent(words, rate, message, custom, size):
+    status = lent_status(words)
+    return (status, None) if status else kt(rate, message, custom, size)
 
 
 def started_status(function, first_size, custom_size, message_size, size):

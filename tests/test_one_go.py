@@ -57,6 +57,16 @@ class OneGo(unittest.TestCase):
         self.assertEqual(one_go.kt_status(self.MESSAGE, self.CUSTOM, self.OUTPUT + 1), 6)
         self.assertEqual(one_go.kt_status(self.MESSAGE, self.CUSTOM, self.OUTPUT), 0)
 
+    def test_order_of_the_lent_refusals(self):
+        """12, for any number of words but 100, before 2, 4, 7 and 6, and before an answer of 0; with 100 words as the plain call."""
+        sizes = [(m, c, n) for m in (0, self.MESSAGE, self.MESSAGE + 1) for c in (0, self.CUSTOM + 1) for n in (0, 1, self.OUTPUT + 1)]
+        for words in (0, 1, 25, 96, 99, 101, 104, 200, 300):
+            self.assertEqual([one_go.kt_lent_status(words, *lengths) for lengths in sizes], [12] * len(sizes))
+            self.assertEqual([one_go.kt_lent(words, 168, b"abc", b"", size) for size in (0, 1)], [(12, None)] * 2)
+        self.assertEqual([one_go.kt_lent_status(100, *lengths) for lengths in sizes], [one_go.kt_status(*lengths) for lengths in sizes])
+        self.assertEqual({one_go.kt_lent_status(100, *lengths) for lengths in sizes}, {0, 2, 4, 6, 7})
+        self.assertEqual(one_go.kt_lent(100, 136, b"abc", b"d", 40), (0, reference.kt256(b"abc", b"d", 40)))
+
     def test_order_of_the_hopmac_refusals(self):
         """The key and the message are each held to the limit of 2; a tag is never so long that 6 is due."""
         most, over, output = self.MESSAGE, self.MESSAGE + 1, self.OUTPUT

@@ -26,7 +26,7 @@ class Malformed(Refused):
                         self.refused([(record("N", bytes([function])), "fresh")], data[:size])
 
     def test_unknown_op(self):
-        for op in "\x00\n \xff09aftkhvcebpmZ":
+        for op in "\x00\n \xff09fthvcebpmZ":
             for n in (0, 1):
                 with self.subTest(op=op, n=n):
                     self.refused_in_a_list(record(op, bytes(n)))

@@ -1,12 +1,12 @@
-"""KT runs and days by the book and by the run: the leaf in hand, the customization phase of request Q-2, events."""
+"""KT runs and days by the book and by the run: the leaf in hand, the customization phase of request Q-2, events, words lent by request Q-6."""
 import unittest
 
 import model_run
 import reference
 import transcript
 from model_run import Count, KtRun, Sponge
-from short_runs import CUSTOM_LIMIT, ShortDayRun, ShortDayTranscript, ShortKtRun, ShortKtTranscript, fields
-from transcript import CHAINING, KT, Limits
+from short_runs import CUSTOM_LIMIT, KT_ABSORB_LIMIT, ShortDayRun, ShortDayTranscript, ShortKtRun, ShortKtTranscript, fields
+from transcript import CHAINING, KT, Limits, lending, lent_after
 
 
 def held(sponge):
@@ -121,6 +121,48 @@ class Customization(unittest.TestCase):
             alone.absorb(reference.ptn(message + custom))
             self.assertEqual(fields(run)[4:], fields(alone)[4:])
             self.assertEqual((run.totals(), run.is_reached()), ((message, 0, custom), True))
+
+
+class Lent(unittest.TestCase):
+    """A message piece with words lent, by request Q-6, in the book and in the run."""
+
+    OTHERS = 0, 99, 101, 200, 300
+
+    def statuses(self, one, *pieces):
+        """With 100 words; any other number answers 12 to each of these pieces, and changes nothing."""
+        before = one.phase, one.totals(), one.permutations
+        refused = [lending(words, one.absorb, piece) for piece in pieces for words in self.OTHERS]
+        self.assertEqual((refused, (one.phase, one.totals(), one.permutations)), ([12] * len(refused), before))
+        return [lending(100, one.absorb, piece) for piece in pieces]
+
+    def test_before_3_and_2(self):
+        for kind in (ShortKtTranscript, ShortKtRun):
+            one = kind(168)
+            self.assertEqual(self.statuses(one, b"", b"abc", bytes(KT_ABSORB_LIMIT - 2), b""), [0, 0, 2, 0])
+            self.assertEqual(one.totals(), (3, 0, 0))
+            self.assertEqual((one.customize(b""), self.statuses(one, b"", b"a", bytes(KT_ABSORB_LIMIT))), (0, [3, 3, 3]))
+            self.assertEqual((one.finish(), self.statuses(one, b"", b"a", bytes(KT_ABSORB_LIMIT))), (0, [3, 3, 3]))
+            self.assertEqual(one.squeeze(40), (0, reference.kt128(b"abc", b"", 40)))
+
+    def test_before_5(self):
+        """Which only a run has."""
+        for field, value in (("phase", 3), ("squeezed", 1), ("customized", 1), ("permutations", 1), ("absorbed", KT_ABSORB_LIMIT + 1)):
+            run = ShortKtRun(136)
+            setattr(run, field, value)
+            self.assertEqual(self.statuses(run, b"", b"a", bytes(KT_ABSORB_LIMIT + 1)), [5, 5, 5], field)
+
+    def test_same_as_plain(self):
+        """With 100 words it is the plain call."""
+        for rate in KT.values():
+            for kind in (ShortKtTranscript, ShortKtRun):
+                plain, lent = kind(rate), kind(rate)
+                for piece in (reference.ptn(100), reference.ptn(8300), b"", reference.ptn(20_000)):
+                    self.assertEqual(lending(100, lent.absorb, piece), plain.absorb(piece))
+                    self.assertEqual((lent.totals(), lent.permutations), (plain.totals(), plain.permutations))
+                self.assertEqual((lent.finalize(b"ab"), plain.finalize(b"ab"), lent.squeeze(40)), (0, 0, plain.squeeze(40)))
+
+    def test_words_afterwards(self):
+        self.assertEqual([lent_after(status) for status in range(17)], ["zero"] + 16 * ["kept"])
 
 
 class Day(unittest.TestCase):

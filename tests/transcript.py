@@ -6,7 +6,7 @@ permutations the definition takes for the bytes so far (request Q-10). `Transcri
 calls in one go. Written from documents 01 and 02 and the draft, never from the Rattle sources.
 
 A KT run and a day have a customization phase (request Q-2): `customize` takes a piece of C, `finish` closes the run with the C so taken,
-`finalize` closes a run in the message phase with a whole C.
+`finalize` closes a run in the message phase with a whole C. `lending` is for a call that lends words to KT's second engine (request Q-6).
 """
 import reference
 from counted_hash import CountedSponge, CountedTree
@@ -19,6 +19,8 @@ CHAINING = {168: 32, 136: 64}  # the chaining length of each strength, by its ra
 NODES = {function.rate: function for function in TURBOSHAKE.values()}  # what the nodes of each strength are hashed by
 ABSORBING, FINALIZED, CUSTOMIZING = 0, 1, 2  # the last is KT's and a day's
 DONE, BAD_DOMAIN, TOO_LONG, WRONG_PHASE, CUSTOM_TOO_LONG, NOT_REACHED, TOO_MUCH, BAD_SIZE, EVENT_TOO_LONG = range(9)
+LENT_WORDS = 100  # of 64 bits: the four states of KT's second engine
+WRONG_LENT = 12  # the answer to any other number of them
 
 
 def domain_status(function, domain):
@@ -43,6 +45,21 @@ def read_limit(function, limit=Limits.SQUEEZE_LIMIT):
 def custom_status(size, limit=Limits.CUSTOM_LIMIT):
     """Answer 4: the customization string is longer than its limit."""
     return CUSTOM_TOO_LONG if size > limit else DONE
+
+
+def lent_status(words):
+    """Answer 12: the lent slice has not the words of four states."""
+    return DONE if words == LENT_WORDS else WRONG_LENT
+
+
+def lending(words, call, *arguments):
+    """What a call of a book, or of a run, answers where so many words are lent: 12 before all other numbers, 5 too, and else as the plain call."""
+    return lent_status(words) or call(*arguments)
+
+
+def lent_after(status):
+    """What the lent words hold after a call: a done one leaves them zero, any other, which has changed nothing, as they were."""
+    return "zero" if status == DONE else "kept"
 
 
 class Transcript(Limits):
