@@ -89,9 +89,9 @@ fn timed(hash: &Hash, message: &[u8], way: Way) -> (f64, Digest) {
 }
 
 /// Those of the versions that have the way; none where the first, the proved one, has not.
-fn compare(&(name, versions): &Function, size: usize, repeats: usize) {
+fn compare(&(name, versions): &Function, ways: &[Way], size: usize, repeats: usize) {
     let message = pattern(size << 20);
-    for way in [Way::Pieces(4096), Way::Pieces(7), Way::InPlace(7), Way::OneGo] {
+    for &way in ways {
         let those: Vec<(&str, &Hash)> = versions.iter().filter(|(_, hash)| hash.has(way)).map(|(name, hash)| (*name, hash)).collect();
         if versions[0].1.has(way) {
             let what = format!("{name} of {size} MiB {}, ms for all", way.words());
@@ -101,8 +101,8 @@ fn compare(&(name, versions): &Function, size: usize, repeats: usize) {
 }
 
 /// The pattern is made in full whatever N is, so that two counts differ by the hashing alone.
-fn once(hash: &Hash, way: &str, size: &str) {
-    let message = pattern(1 << 20);
+fn once(hash: &Hash, way: &str, size: &str, most: usize) {
+    let message = pattern(most << 20);
     println!("{:02x?}", timed(hash, &message[..size.parse().unwrap()], Way::read(way)).1);
 }
 
@@ -110,15 +110,21 @@ fn found<'a, T>(named: &'a [(&str, T)], name: &str) -> &'a T {
     &named.iter().find(|(n, _)| *n == name).expect("a name").1
 }
 
-/// Does what the program's words say: `compare`, or the name of a version and of its function with a way and a length.
+/// As `run_ways`, in pieces of 4096 and of 7 bytes and in one go, with a length of at most 1 MiB.
 pub fn run(functions: &[Function]) {
+    run_ways(functions, &[Way::Pieces(4096), Way::Pieces(7), Way::InPlace(7), Way::OneGo], 1)
+}
+
+/// Does what the program's words say: `compare`, which goes over the ways, or the name of a version and of its function with a way and a length
+/// of at most `most` MiB.
+pub fn run_ways(functions: &[Function], ways: &[Way], most: usize) {
     let words: Vec<String> = std::env::args().skip(1).collect();
     let words: Vec<&str> = words.iter().map(String::as_str).collect();
     match words[..] {
-        ["compare"] => functions.iter().for_each(|function| compare(function, 64, 9)),
+        ["compare"] => functions.iter().for_each(|function| compare(function, ways, 64, 9)),
         [version, function, way, n] => {
             let versions = *found(functions, function);
-            once(found(versions, version), way, n)
+            once(found(versions, version), way, n, most)
         }
         _ => panic!("compare | VERSION FUNCTION STEP|STEP-in-place|one N"),
     }

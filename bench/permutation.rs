@@ -2,8 +2,11 @@
 //!
 //!   permutation compare                a million permutations of each, alternating: best, median and ratio
 //!   permutation VERSION N              N permutations of one of them, for an instruction count
+//!   permutation compare-four           a million permutations of four states abreast, and four million plain ones
+//!   permutation four|plain N           N permutations of a state, a quarter of them of each of four
 //!
-//! The versions: rattle, before, and two of ordinary Rust: rust, with an array and loops, and locals, with the lanes in locals.
+//! The versions: rattle, before, and two of ordinary Rust: rust, with an array and loops, and locals, with the lanes in locals. Of four states: four, the
+//! proved code of four states abreast, and plain, which is rattle of one after the other.
 mod constants;
 mod lanes;
 mod measure;
@@ -14,7 +17,9 @@ use std::time::Instant;
 extern "C" {
     // crates/bench/src/lib.rt; the array passes as a pointer.
     fn bench_permute(lanes: &mut [u64; 25], count: usize);
-    // The same of an earlier commit.
+    // crates/bench/src/four.rt; the slice passes as a pointer and a length.
+    fn bench_permute_four(states: *mut u64, words: usize, count: usize) -> u8;
+    // bench_permute of an earlier commit.
     #[cfg(before)]
     fn before_permute(lanes: &mut [u64; 25], count: usize);
 }
@@ -85,6 +90,37 @@ fn timed(permutation: &Permutation, count: usize) -> (f64, [u64; 25]) {
     (start.elapsed().as_nanos() as f64 / count as f64, lanes)
 }
 
+/// Permutes each of four states so many times.
+type Four = fn(&mut [[u64; 25]; 4], usize) -> f64;
+
+/// Abreast, lane i of state j at 4 i + j: the time of the call alone, in nanoseconds.
+fn abreast(states: &mut [[u64; 25]; 4], count: usize) -> f64 {
+    let mut words = [0u64; 100];
+    (0..100).for_each(|w| words[w] = states[w % 4][w / 4]);
+    let start = Instant::now();
+    // The callee reads and writes the 100 words and nothing else.
+    let status = unsafe { bench_permute_four(words.as_mut_ptr(), words.len(), count) };
+    let time = start.elapsed().as_nanos() as f64;
+    assert_eq!(status, 0);
+    (0..100).for_each(|w| states[w % 4][w / 4] = words[w]);
+    time
+}
+
+/// One after the other.
+fn plain(states: &mut [[u64; 25]; 4], count: usize) -> f64 {
+    let start = Instant::now();
+    states.iter_mut().for_each(|lanes| unsafe { bench_permute(lanes, count) });
+    start.elapsed().as_nanos() as f64
+}
+
+/// Nanoseconds a permutation of one state, over `count` of each of four states that differ in their first lanes, and the results.
+fn timed_four(four: &Four, count: usize) -> (f64, [[u64; 25]; 4]) {
+    let mut states = [[0u64; 25]; 4];
+    (0..4).for_each(|j| states[j][0] = j as u64);
+    let time = four(&mut states, count);
+    (time / (4 * count) as f64, states)
+}
+
 fn main() {
     let versions = [
         ("rattle", Permutation::Proved(bench_permute)),
@@ -93,14 +129,20 @@ fn main() {
         ("rust", Permutation::Rust(rust)),
         ("locals", Permutation::Rust(locals)),
     ];
+    let fours: [(&str, Four); 2] = [("four", abreast), ("plain", plain)];
     let words: Vec<String> = std::env::args().skip(1).collect();
     let words: Vec<&str> = words.iter().map(String::as_str).collect();
     match words[..] {
         ["compare"] => measure::compare("1000000 permutations, ns for one", "ns", 15, &versions, |p| timed(p, 1_000_000)),
+        ["compare-four"] => measure::compare("1000000 permutations of four states, ns for one state", "ns", 15, &fours, |f| timed_four(f, 1_000_000)),
+        [version @ ("four" | "plain"), n] => {
+            let found = fours.iter().find(|(v, _)| *v == version).expect("a version's name");
+            println!("{:016x?}", timed_four(&found.1, n.parse::<usize>().unwrap() / 4).1.map(|lanes| lanes[0]));
+        }
         [version, n] => {
             let found = versions.iter().find(|(v, _)| *v == version).expect("a version's name");
             println!("{:016x}", timed(&found.1, n.parse().unwrap()).1[0]);
         }
-        _ => panic!("permutation compare | VERSION N"),
+        _ => panic!("permutation compare | compare-four | VERSION N"),
     }
 }

@@ -1,11 +1,12 @@
 -- The hashers of the benchmarks and their laws of calls in a row: one for every function of `hasher`, of which TurboSHAKE128 with D = 1F,
--- SHA3-256 and SHAKE128 are instances, and KT128 with C empty.
+-- SHA3-256 and SHAKE128 are instances, and KT with C empty.
 -- Assumes nothing.
 use mathlib.Core.Path.{_≡_, refl, ap, _∙_}
 use mathlib.Core.List.{List, []}
 use Prim.Native.Nat.{ℕ, _<_}
 use native.Mathlib.Omega.{arith}
 use lib.ListN.{length}
+use Rattle.sponge.specs.Transcript.{Call}
 use Rattle.hasher.specs.Function.{Function, longOutput, output}
 use Rattle.hasher.specs.Claims.{Meets}
 use Rattle.hasher.specs.Model.{freshOf, answer, written}
@@ -18,13 +19,13 @@ use Rattle.turboshake.proofs.Claims as turboshake-claims
 use Rattle.fips202.specs.Published.{sha3, shake}
 use Rattle.fips202.specs.Transcript as fips
 use Rattle.fips202.proofs.Claims as fips-claims
+use Rattle.kangarootwelve.specs.Published as kt-published
 use Rattle.kangarootwelve.specs.Transcript as kt-transcript
 use Rattle.kangarootwelve.specs.Model as kt
 use Rattle.kangarootwelve.specs.declared.Run as kt-run
 use Rattle.kangarootwelve.specs.declared.Kt128.{Kt128}
-use Rattle.kangarootwelve.specs.declared.Answer128 as kt-answer
+use Rattle.kangarootwelve.specs.declared.Answer128.{Answer128}
 use Rattle.kangarootwelve.proofs.Pieces as kt-pieces
-use Rattle.bench.specs.Pieces.{ktWithNone}
 use Rattle.bench.proofs.Pieces.{Hasher}
 
 -- ---- the functions of `hasher`
@@ -84,33 +85,39 @@ shakeHasher =
     (shake 16)
     (fips-claims.claims .shake128 .published)
 
--- ---- KT128
-
-pub positive : 0 < 168
-positive = omega arith
+-- ---- KT with C empty, at either strength
 
 pub no-customization : kt-transcript.customizationStatus 0 ≡ 0
 no-customization = kt-pieces.customization-taken 0 (omega arith)
 
-abbrev pub ktHasher : Hasher (List ℕ) Kt128 kt-answer.Answer128
-ktHasher = record {
-  answer = kt.answer128;
-  status = λ x. x .status;
-  left = λ x. x .hasher;
-  output = λ h out. kt.outputOf 168 32 (h .run) out;
-  argument = [];
-  timed = ktWithNone;
-  fresh = record { run = kt.freshOf 168 32 };
-  after = λ m. record { run = kt-pieces.absorbedRun 168 32 positive m };
-  closed = λ m. record { run = kt-pieces.finalizedRun 168 32 positive m [] };
-  fresh-run = ap (λ (r : kt-run.Run). record { run = r }) (kt-pieces.fresh-absorbed 168 32 positive);
-  absorb-piece = λ m p l.
-      let e = kt-pieces.absorb-piece 168 32 positive m p l in
-      (ap (λ (x : kt.Answer). x .status) e, ap (λ (x : kt.Answer). record { run = x .run }) e);
-  absorb-long = λ m p h l. ap (λ (x : kt.Answer). x .status) (kt-pieces.absorb-long 168 32 positive m p h l);
-  finalize-run = λ m h.
-      ap (λ (x : kt.Answer). record { run = x .run })
-      (kt-pieces.finalize-run 168 32 positive m [] h no-customization);
-  squeeze-run = λ m out h l. kt-pieces.squeeze-run 168 32 positive m [] out h no-customization l;
-  squeeze-long = λ m out h l. kt-pieces.squeeze-long 168 32 positive m [] out h no-customization l;
-}
+module _ (rate chaining : ℕ) (positive : 0 < rate) where
+  abbrev pub ktHasher : Hasher (List ℕ) kt-run.Run kt.Answer
+  ktHasher = record {
+    answer = kt.answerOf rate chaining;
+    status = λ x. x .status;
+    left = λ x. x .run;
+    output = kt.outputOf rate chaining;
+    argument = [];
+    timed = record { output = λ m n. kt-published.kt rate chaining m [] n; limit = longOutput };
+    fresh = kt.freshOf rate chaining;
+    after = kt-pieces.absorbedRun rate chaining positive;
+    closed = λ m. kt-pieces.finalizedRun rate chaining positive m [];
+    fresh-run = kt-pieces.fresh-absorbed rate chaining positive;
+    absorb-piece = λ m p l.
+        let e = kt-pieces.absorb-piece rate chaining positive m p l in
+        (ap (λ (x : kt.Answer). x .status) e, ap (λ (x : kt.Answer). x .run) e);
+    absorb-long = λ m p h l. ap (λ (x : kt.Answer). x .status) (kt-pieces.absorb-long rate chaining positive m p h l);
+    finalize-run = λ m h. ap (λ (x : kt.Answer). x .run) (kt-pieces.finalize-run rate chaining positive m [] h no-customization);
+    squeeze-run = λ m out h l. kt-pieces.squeeze-run rate chaining positive m [] out h no-customization l;
+    squeeze-long = λ m out h l. kt-pieces.squeeze-long rate chaining positive m [] out h no-customization l;
+  }
+
+abbrev pub kt128Hasher : Hasher (List ℕ) kt-run.Run kt.Answer
+kt128Hasher = ktHasher 168 32 (omega arith)
+
+-- from what a call's contract says of its answer x
+abbrev pub answer128 : Answer128 → kt.Answer
+answer128 x = record { status = x .status; run = x .hasher .run }
+
+pub answered128 : (h : Kt128) (c : Call (List ℕ)) (x : Answer128) → x ≡ kt.answer128 h c → answer128 x ≡ kt.answerOf 168 32 (h .run) c
+answered128 h c x e = ap answer128 e

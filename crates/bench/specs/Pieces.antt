@@ -10,7 +10,7 @@ use Rattle.sponge.specs.Transcript.{lent}
 use Rattle.hasher.specs.Function.{messageLimit, longOutput}
 use Rattle.turboshake.specs.Published.{turboshake128}
 use Rattle.fips202.specs.Published.{sha3, shake}
-use Rattle.kangarootwelve.specs.Published.{kt128}
+use Rattle.kangarootwelve.specs.Published.{kt128, kt256}
 use Rattle.sp800_185.specs.Published.{cshake, kmac}
 
 -- a function that is timed: its published output, of the message and the number of bytes asked, and the most bytes that are read
@@ -25,6 +25,10 @@ turboshakeWith1F = record { output = λ m n. turboshake128 m 0x1F n; limit = lon
 -- KT128 with C empty
 abbrev pub ktWithNone : Timed
 ktWithNone = record { output = λ m n. kt128 m [] n; limit = longOutput }
+
+-- KT256 with C empty
+abbrev pub kt256WithNone : Timed
+kt256WithNone = record { output = λ m n. kt256 m [] n; limit = longOutput }
 
 -- SHA3-256, whose digest has 32 bytes
 abbrev pub sha3-256 : Timed

@@ -1,8 +1,9 @@
 // What the benchmarks of bench/ call through the C calling convention.
 mod fips;
+mod four;
 mod in_place;
 mod keyed;
-mod kt;
+pub mod kt;
 
 ghost use mathlib.Core.Path.{_≡_};
 ghost use Prim.Native.Nat.{min};
@@ -16,7 +17,7 @@ use turboshake::TurboShake128;
 const DOMAIN: u8 = 0x1F;
 
 // Pieces of no bytes.
-const BAD_STEP: u8 = 9;
+pub const BAD_STEP: u8 = 9;
 
 // Permutes the lanes `count` times.
 #[no_mangle]
@@ -30,7 +31,7 @@ pub extern "C" fn bench_permute(lanes: &mut [u64; 25], count: usize)
     }
 }
 
-fn least(x: usize, y: usize) -> usize
+pub fn least(x: usize, y: usize) -> usize
     ensures { λ r. ⌜ r ≡ min x y ⌝ }
 {
     if x < y { x } else { y }

@@ -1,15 +1,17 @@
+use mathlib.Core.Path.{ap}
 use Prim.Native.Nat.{_-_}
 use native.Mathlib.Omega.{arith}
 use borrow.Author.Needs.{needs}
 use lib.ListN.{length}
+use Rattle.kangarootwelve.specs.declared.Kt128.{Kt128}
 use Rattle.bench.specs.Pieces.{ktWithNone}
 use Rattle.bench.proofs.Pieces.{pieces-9, Absorbed, start, again, refused, row}
-use Rattle.bench.proofs.Hashers.{ktHasher}
+use Rattle.bench.proofs.Hashers.{kt128Hasher, answer128, answered128}
 use Rattle.bench.proofs.kt.bench_kt_pieces.Statement.{statement}
 use Rattle.bench.proofs.kt.bench_kt_pieces.Tie as tie
 
 abbrev Inv-loop : tie.InvT-loop
-Inv-loop message step out hasher₀ i₀ hasher i = Absorbed ktHasher message hasher i
+Inv-loop message step out hasher₀ i₀ hasher i = Absorbed kt128Hasher message (hasher .run) i
 
 abbrev μ-loop : tie.MeasureT-loop
 μ-loop message step out hasher₀ i₀ hasher i = length message - i
@@ -21,7 +23,7 @@ fresh-requires : tie.Need-fresh-requires Inv-loop μ-loop
 fresh-requires c κs = search needs
 
 loop-holds : tie.Need-loop-holds Inv-loop μ-loop
-loop-holds c = start ktHasher (c .before .before .before .before .args .message .now) (c .fresh .result) (c .fresh .ensures)
+loop-holds c = start kt128Hasher (c .before .before .before .before .args .message .now) (c .fresh .result .run) (ap (λ (h : Kt128). h .run) (c .fresh .ensures))
 
 sub-least : tie.Need-sub-least Inv-loop μ-loop
 sub-least c = search needs
@@ -50,7 +52,7 @@ returns-2 c =
     let a = l .before .before .before .before .before .args in
     let k = c .before .before .before .before .before .least .result in
     let r = c .before .before .before .absorb in
-    refused ktHasher (a .message .now) (l .loop .hasher) (l .loop .i) k (l .loop .inv) (omega arith) (r .result) (r .ensures) (a .step) (l .before .before .if1 .left) (a .out .now) (c .if2 .taken)
+    refused kt128Hasher (a .message .now) (l .loop .hasher .run) (l .loop .i) k (l .loop .inv) (omega arith) (answer128 (r .result)) (answered128 (l .loop .hasher) _ (r .result) (r .ensures)) (a .step) (l .before .before .if1 .left) (a .out .now) (c .if2 .taken)
 
 add-i : tie.Need-add-i Inv-loop μ-loop
 add-i c = search needs
@@ -64,7 +66,7 @@ loop-again c =
     let a = l .before .before .before .before .before .args in
     let k = c .before .before .before .before .before .least .result in
     let r = c .before .before .before .absorb in
-    again ktHasher (a .message .now) (l .loop .hasher) (l .loop .i) k (l .loop .inv) (omega arith) (r .result) (r .ensures) (c .if2 .left)
+    again kt128Hasher (a .message .now) (l .loop .hasher .run) (l .loop .i) k (l .loop .inv) (omega arith) (answer128 (r .result)) (answered128 (l .loop .hasher) _ (r .result) (r .ensures)) (c .if2 .left)
 
 sub-finalize : tie.Need-sub-finalize Inv-loop μ-loop
 sub-finalize c = search needs
@@ -91,7 +93,7 @@ returns-3 c =
     let a = l .before .before .before .before .before .args in
     let f = c .before .before .before .before .before .finalize in
     let q = c .before .before .squeeze in
-    row ktHasher (a .message .now) (l .loop .hasher) (l .loop .i) (l .loop .inv) (e .loop-test .left) (f .result) (f .ensures) (a .out .now) (q .result) (q .ensures .0) (q .last .1 .0) (q .ensures .1) (a .step) (l .before .before .if1 .left)
+    row kt128Hasher (a .message .now) (l .loop .hasher .run) (l .loop .i) (l .loop .inv) (e .loop-test .left) (answer128 (f .result)) (answered128 (l .loop .hasher) _ (f .result) (f .ensures)) (a .out .now) (answer128 (q .result)) (answered128 (f .result .hasher) _ (q .result) (q .ensures .0)) (q .last .1 .0) (q .ensures .1) (a .step) (l .before .before .if1 .left)
 
 pub bench-kt-pieces-spec : {M : Type 1} → statement M
 bench-kt-pieces-spec =
