@@ -1,11 +1,12 @@
--- The steps on whole words move and invert bits as FIPS 202 says of single ones (sections 3.2.2 and 3.2.4).
+-- What rotation, inversion, XOR and AND of words do to their bits, and that words with the same bits are the same.
 -- Assumes nothing.
 use mathlib.Core.Path.{_≡_, sym, ap, ap₂, _∙_, subst}
 use mathlib.Core.Logic.{⊎-elim}
-use Prim.Native.Nat.{ℕ, _+_, _-_, _*_, _/_, _%_, _^_, _<_, _≤_}
-use native.Mathlib.Nat.{add-comm, add-zero, add-mul, mul-comm, mul-mod-left, mod-lt, eq-zero-or-pos}
+use Prim.Native.Nat.{ℕ, zero, suc, _+_, _-_, _*_, _/_, _%_, _^_, _<_, _≤_, suc-le-suc}
+use native.Mathlib.Nat.{add-comm, add-zero, add-mul, mul-comm, mul-mod-left, mod-lt, eq-zero-or-pos, div-one, zero-lt-suc}
 use native.Mathlib.Omega.{arith}
-use lib.Bits.{bitOr, or-shifted}
+use lib.Bits.{bitOr, bitXor, bitAnd, or-shifted, xor-shr, xor-mod, and-shr, and-mod}
+use lib.Dec.{lit<}
 use lib.Pow.{pow-add, pow-pos, mod-pow-add, mod-mod-pow, field, shl-shr, shr-shr, shr-lt, high, low, split, ones-split, ones-sub-lt, le-ones}
 use Rattle.keccak.specs.Round.{rotl, complement}
 use Rattle.keccak.proofs.Words.{rotl-pos}
@@ -14,16 +15,45 @@ use Rattle.keccak.proofs.Words.{rotl-pos}
 abbrev pub bit : ℕ → ℕ → ℕ
 bit x z = x / 2 ^ z % 2
 
+pub bit-lt : (x z : ℕ) → bit x z < 2
+bit-lt x z = mod-lt (x / 2 ^ z) (lit< tt)
+
 -- the bits below n are those of the remainder modulo 2^n
-bit-low : (x n z : ℕ) → z < n → bit (x % 2 ^ n) z ≡ bit x z
+pub bit-low : (x n z : ℕ) → z < n → bit (x % 2 ^ n) z ≡ bit x z
 bit-low x n z h =
     let j : ℕ = n - (z + 1) in
     let e : n ≡ (j + 1) + z = omega arith in
     ap (λ (i : ℕ). bit (x % 2 ^ i) z) e ∙ ap (λ (y : ℕ). y % 2) (field x (j + 1) z) ∙ mod-mod-pow (x / 2 ^ z) j 1
 
 -- the bits from n on are those of the quotient by 2^n
-bit-high : (x n z : ℕ) → bit x (n + z) ≡ bit (x / 2 ^ n) z
+pub bit-high : (x n z : ℕ) → bit x (n + z) ≡ bit (x / 2 ^ n) z
 bit-high x n z = ap (λ (y : ℕ). y % 2) (sym (shr-shr x n z))
+
+-- ---- XOR and AND
+
+pub bit-xor : (x y z : ℕ) → bit (bitXor x y) z ≡ bitXor (bit x z) (bit y z)
+bit-xor x y z = ap (λ (n : ℕ). n % 2) (xor-shr x y z) ∙ xor-mod (x / 2 ^ z) (y / 2 ^ z) 1
+
+pub bit-and : (x y z : ℕ) → bit (bitAnd x y) z ≡ bitAnd (bit x z) (bit y z)
+bit-and x y z = ap (λ (n : ℕ). n % 2) (and-shr x y z) ∙ and-mod (x / 2 ^ z) (y / 2 ^ z) 1
+
+-- ---- words with the same bits
+
+bit-zero : (x : ℕ) → bit x 0 ≡ x % 2
+bit-zero x = ap (λ (n : ℕ). n % 2) (div-one x)
+
+bit-half : (x z : ℕ) → bit (x / 2) z ≡ bit x (suc z)
+bit-half x z = ap (λ (n : ℕ). n % 2) (shr-shr x 1 z) ∙ ap (bit x) (omega arith)
+
+bits-same : (k x y : ℕ) → x < 2 ^ k → y < 2 ^ k → ((z : ℕ) → z < k → bit x z ≡ bit y z) → x ≡ y
+bits-same zero x y hx hy h = omega arith
+bits-same (suc k) x y hx hy h =
+    let halves : x / 2 ≡ y / 2 = bits-same k (x / 2) (y / 2) (omega arith) (omega arith) (λ z g. bit-half x z ∙ h (suc z) (suc-le-suc g) ∙ sym (bit-half y z)) in
+    let last : x % 2 ≡ y % 2 = sym (bit-zero x) ∙ h 0 (zero-lt-suc k) ∙ bit-zero y in
+    omega arith
+
+pub words-same : (x y : ℕ) → x < 2 ^ 64 → y < 2 ^ 64 → ((z : ℕ) → z < 64 → bit x z ≡ bit y z) → x ≡ y
+words-same = bits-same 64
 
 -- ---- rotation
 
@@ -85,6 +115,14 @@ rotl-bit x n z hx hn hz =
     ap₂ (λ (k j : ℕ). bit (rotl x k) j) e i)
     (λ h. rotl-bit-some x n z hx h hn hz)
     (eq-zero-or-pos n)
+
+-- bit z of a rotated word, from where it came
+pub rotl-from : (x n z : ℕ) → x < 2 ^ 64 → n < 64 → z < 64 → bit (rotl x n) z ≡ bit x ((64 - n + z) % 64)
+rotl-from x n z hx hn hz =
+    let u : ℕ = (64 - n + z) % 64 in
+    let hu : u < 64 = omega arith in
+    let e : z ≡ (n + u) % 64 = omega arith in
+    ap (bit (rotl x n)) e ∙ rotl-bit x n u hx hn hu
 
 -- ---- inversion
 

@@ -1,10 +1,13 @@
--- Laws of the permutation. Callers use `States` and `Bytes`; the rest serves the functions' own proofs.
+-- Laws of the permutation. Callers use `States` and `Bytes`, and where they look into a state or a round `Steps`, `Rounds`, `Grid`, `Bits`, `Words`,
+-- `Offsets`, `Table` and `Xor`; the rest serves the functions' own proofs.
+pub mod Xor
 pub mod Table
 pub mod Grid
 pub mod Words
 pub mod Offsets
 pub mod Constants
 pub mod Rounds
+pub mod Steps
 pub mod States
 pub mod Bytes
 pub mod Bits

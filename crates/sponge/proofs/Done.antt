@@ -3,7 +3,7 @@
 use mathlib.Core.Path.{_≡_, refl, sym, ap, _∙_}
 use mathlib.Core.List.{List, [], _++_}
 use mathlib.Core.Bool.{Bool, true, false, cond}
-use Prim.Native.Nat.{ℕ, zero, suc, _+_, _≤_}
+use Prim.Native.Nat.{ℕ, suc, _+_, _≤_}
 use native.Mathlib.Omega.{arith}
 use lib.ListN.{length, length-append}
 use lib.Dec.{eqb}
@@ -55,7 +55,7 @@ module _ {S A : Type 0} (U : Rules A) (M : Machine S A) where
       perform-status U M r (squeeze m) ∙ rw (x .reached, eq-eqb (r .phase) 1 (x .squeezing), le-leb (r .squeezed + m) (M .limit (r .state)) (omega arith))
 
   -- the run that a done call leaves
-  left-done : (r : Run S) (c : Call A) → perform U M r c .status ≡ 0 → perform U M r c .left ≡ worked U M r c
+  pub left-done : (r : Run S) (c : Call A) → perform U M r c .status ≡ 0 → perform U M r c .left ≡ worked U M r c
   left-done r c e = ap (λ (y : Reply (Run S)). y .left) (perform-done U M r c (sym (perform-status U M r c) ∙ e))
 
 -- ---- the laws

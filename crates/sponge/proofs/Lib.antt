@@ -1,6 +1,6 @@
--- Laws of the sponge. Those marked `pub` serve the crates above: `Published` (the fold computes the published sponge), `Position`, `Count`, `Valid`
+-- Laws of the sponge. Those marked `pub` serve the crates above: `Xor`, `Published` (the fold computes the published sponge), `Position`, `Count`, `Valid`
 -- (the calls' two cases), `Following` to `Corollaries` (lists of calls, and what follows), `Lending` (calls that lend words), `Lent`, `Answers`, `Pieces` and
--- `PieceStatus` (one call, and calls in a row), `Abreast` (the calls on four states). The rest serves the functions' own proofs.
+-- `PieceStatus` (one call, and calls in a row), `Abreast` (the calls on four states), `Typed`. The rest serves the functions' own proofs.
 pub mod Xor
 pub mod XorByte
 pub mod Waiting
@@ -26,3 +26,4 @@ pub mod Words
 mod Output
 pub mod Blocks
 pub mod Abreast
+pub mod Typed

@@ -12,9 +12,9 @@ use lib.Bits.{bitXor, xor-zero-r, xor-comm, xor-shifted}
 use lib.Pow.{shl-exact, shl-lt, pow-add, high, low}
 use Rattle.keccak.specs.State.{word}
 use Rattle.keccak.proofs.Bytes.{word-nil, word-cons}
+use Rattle.keccak.proofs.Xor.{xor-assoc}
 use Rattle.sponge.specs.Cut.{puts}
 use Rattle.sponge.specs.Published.{xorByte}
-use Rattle.sponge.proofs.Xor.{xor-assoc}
 
 -- w XORed into lane q
 abbrev pub xorLane : List ℕ → ℕ → ℕ → List ℕ

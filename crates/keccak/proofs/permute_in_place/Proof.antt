@@ -1,6 +1,6 @@
 -- `keccak::permute_in_place` meets its contract. The loop's invariant: the rounds that are left, done to `a`, give the result.
 -- Assumes nothing.
-use mathlib.Core.Path.{_≡_, refl}
+use mathlib.Core.Path.{_≡_}
 use Prim.Native.Nat.{_≤_, _<_, _-_}
 use native.Mathlib.Omega.{arith}
 use borrow.Author.Needs.{needs}

@@ -1,13 +1,9 @@
 -- `keccak::round::round` meets its contract: its five planes are those of the definition.
 -- Assumes nothing.
 use mathlib.Core.Path.{_≡_, _∙_}
-use Prim.Native.Nat.{ℕ}
-use mir.Syntax.{w64}
-use mir.Val.{Fits}
 use borrow.Author.Needs.{needs}
-use lib.ListN.{getD}
-use Rattle.keccak.specs.State.{State}
 use Rattle.keccak.proofs.Planes.{plane, plane-is, state, planes-round}
+use Rattle.keccak.proofs.States.{array-state}
 use Rattle.keccak.proofs.round.round.Statement.{statement}
 use Rattle.keccak.proofs.round.round.Tie as tie
 
@@ -26,9 +22,7 @@ returns c =
     let f = p1 .before .before in
     let start = f .before .before in
     let a = start .args .t1 in
-    let word : (i : ℕ) → Fits w64 (getD a i 0) = λ i. search (needs, start .good .0) in
-    let s : State a = record { lanes = start .good .0 .1 .0 .1; words = λ i. word i .fits } in
-    let is = plane-is a s (f .theta-effect .result) in
+    let is = plane-is a (array-state a (start .good .0)) (f .theta-effect .result) in
     let q0 : c5 .chi5 .result ≡ plane a 0 = is (p1 .theta-rho-pi .result) (c5 .chi5 .result) 0 (f .theta-effect .ensures) (p1 .theta-rho-pi .ensures) (c5 .chi5 .ensures) in
     let q1 : c4 .chi4 .result ≡ plane a 1 = is (p2 .theta-rho-pi2 .result) (c4 .chi4 .result) 1 (f .theta-effect .ensures) (p2 .theta-rho-pi2 .ensures) (c4 .chi4 .ensures) in
     let q2 : c2 .chi2 .result ≡ plane a 2 = is (p3 .theta-rho-pi3 .result) (c2 .chi2 .result) 2 (f .theta-effect .ensures) (p3 .theta-rho-pi3 .ensures) (c2 .chi2 .ensures) in
