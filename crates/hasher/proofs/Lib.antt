@@ -5,4 +5,5 @@ pub mod Counts
 pub mod Pieces
 pub mod OneGo
 pub mod Cases
+pub mod Absorbed
 mod Guards

@@ -5,6 +5,7 @@ pub mod Told
 pub mod Lengths
 pub mod Laws
 pub mod Ranges
+pub mod Absorbed
 pub mod OneGo
 pub mod Claims
 pub mod Joins
