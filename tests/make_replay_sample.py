@@ -1,11 +1,12 @@
 #!/usr/bin/env python3
 """Writes crates/replay/stdin, a short list of calls, and crates/replay/stdout, the lines that the program `replay` must answer.
 
-Each status is written out here, by document 01's table and requests Q-2, Q-5 and Q-10, and so are the small numbers of permutations; those at
+Each status is written out here, by document 01's table and requests Q-2, Q-5, Q-10 and Q-13, and so are the small numbers of permutations; those at
 the limits are the formula's, the bytes and the lanes the second program's. sp800_185_sample.py has the calls of request Q-14, lent_sample.py those of Q-6.
 """
 from pathlib import Path
 
+import inverse
 import lent_sample
 import reference
 import sp800_185_sample
@@ -26,6 +27,7 @@ SHA3_NUMBERS = {5: 224, 6: 256, 7: 384, 8: 512}
 SHAKE_NUMBERS = {9: 128, 10: 256}
 CHUNK = reference.CHUNK
 MESSAGE = reference.ptn(CHUNK + 1)
+STATE = MESSAGE[:200]
 CUSTOM = b"abc"
 KT_DIGEST = reference.kt128(MESSAGE, CUSTOM, 37).hex()
 KEY = b"key"
@@ -50,12 +52,16 @@ def fips_one_go(function, size, message):
     return record("B", bytes([function]) + counted(message, size))
 
 
-def rounds(number, state):
-    return record("P", bytes([number]) + state)
+def rounds(number, state, op="P"):
+    return record(op, bytes([number]) + state)
 
 
-def permuted(number, state):
-    return reference.bytes_of(reference.keccak_p(reference.state_of(state), number)).hex()
+def permuted(number, state, made=reference.keccak_p):
+    return reference.bytes_of(made(reference.state_of(state), number))
+
+
+def undone(number, state):
+    return permuted(number, state, inverse.keccak_p_undone)
 
 
 def kt_one_go(function, custom, size, message):
@@ -324,10 +330,17 @@ SAMPLE = [
     (fips_one_go(8, 64, MESSAGE[:71]), "0 " + reference.sha3(512, MESSAGE[:71]).hex()),
     (fips_one_go(8, 64, MESSAGE[:72]), "0 " + reference.sha3(512, MESSAGE[:72]).hex()),
     # the last rounds of 24, and one too many
-    *((rounds(number, MESSAGE[:200]), "0 " + permuted(number, MESSAGE[:200])) for number in (0, 1, 12, 23, 24)),
-    (rounds(24, bytes(200)), "0 " + permuted(24, bytes(200))),
-    (rounds(25, MESSAGE[:200]), "16 " + MESSAGE[:200].hex()),
+    *((rounds(number, STATE), "0 " + permuted(number, STATE).hex()) for number in (0, 1, 12, 23, 24)),
+    (rounds(24, bytes(200)), "0 " + permuted(24, bytes(200)).hex()),
+    (rounds(25, STATE), "16 " + STATE.hex()),
     (rounds(255, bytes(200)), "16 " + bytes(200).hex()),
+    # the same rounds undone, of a state that no round made and of one that they made
+    *((rounds(number, STATE, "I"), "0 " + undone(number, STATE).hex()) for number in (0, 1, 12, 23, 24)),
+    *((rounds(number, permuted(number, STATE), "I"), "0 " + STATE.hex()) for number in (1, 12, 24)),
+    (rounds(12, undone(12, STATE)), "0 " + STATE.hex()),
+    (rounds(24, bytes(200), "I"), "0 " + undone(24, bytes(200)).hex()),
+    (rounds(25, STATE, "I"), "16 " + STATE.hex()),
+    (rounds(255, bytes(200), "I"), "16 " + bytes(200).hex()),
     *sp800_185_sample.SAMPLE,
     *lent_sample.SAMPLE,
     (record("Z"), "bad record"),

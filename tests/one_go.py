@@ -1,9 +1,10 @@
 """What the calls in one go must answer: their status by the lengths, in document 01's order, and the bytes of one that is done. And what the
-permutation answers.
+permutation and its inverse answer.
 
 Written from documents 01 and 02 and the draft, as transcript.py is, which says the statuses that calls on runs share.
 """
 import reference
+from inverse import keccak_p_undone
 from started_transcript import start_status
 from transcript import BAD_SIZE, CHAINING, DONE, TOO_LONG, TOO_MUCH, Limits, custom_status, domain_status, lent_status, read_limit
 
@@ -39,11 +40,16 @@ def sponge(function, message, domain, size):
     return status, function.output(message, domain, size) if status == DONE else None
 
 
-def permutation(rounds, state):
+def permutation(rounds, state, made=reference.keccak_p):
     """The status of the last so many rounds on 200 bytes, and the bytes afterwards, which a refused call leaves as they were."""
     if rounds > MOST_ROUNDS:
         return TOO_MANY_ROUNDS, state
-    return DONE, reference.bytes_of(reference.keccak_p(reference.state_of(state), rounds))
+    return DONE, reference.bytes_of(made(reference.state_of(state), rounds))
+
+
+def inverse(rounds, state):
+    """The same of these rounds undone."""
+    return permutation(rounds, state, keccak_p_undone)
 
 
 def kt(rate, message, custom, size):

@@ -7,6 +7,7 @@ or the one that the variable REPLAY names.
 import os
 import subprocess
 import tempfile
+import threading
 import unittest
 from collections import Counter
 from pathlib import Path
@@ -26,6 +27,8 @@ BEFORE = b"\xa5"  # each byte of the buffer that a squeeze is given
 PHASE, ABSORBED, SQUEEZED, POSITION, LEAF_POSITION, CUSTOMIZED, PERMUTATIONS, OUTPUT_LENGTH, SHAKE_BIT, LANES, LEAF_LANES = *range(9), 64, 96
 NAMES = {PHASE: "phase", ABSORBED: "absorbed", SQUEEZED: "squeezed", CUSTOMIZED: "customized", PERMUTATIONS: "permutations"}
 NAMES |= {OUTPUT_LENGTH: "output_length", SHAKE_BIT: "is_shake"}
+ON_STATE = {"P": one_go.permutation, "I": one_go.inverse}  # what the ops on 200 bytes answer
+SECONDS = 300  # after which the program is ended
 
 
 def counted(data, n=None):
@@ -49,8 +52,9 @@ def fips_record(function, size, message):
     return record("B", bytes([function]) + counted(message, size))
 
 
-def permutation_record(rounds, state):
-    return record("P", bytes([rounds]) + state)
+def permutation_record(rounds, state, op="P"):
+    """Of the inverse where the op is I."""
+    return record(op, bytes([rounds]) + state)
 
 
 def kt_record(function, custom, size, message, custom_size=None):
@@ -71,10 +75,37 @@ def play(records):
     The records come by a pipe, so that the program must put up with reads that give less than it asked.
     """
     with tempfile.TemporaryFile() as output:
-        done = subprocess.run([str(PROGRAM)], input=bytes(records), stdout=output, timeout=300)
+        done = subprocess.run([str(PROGRAM)], input=bytes(records), stdout=output, timeout=SECONDS)
         output.seek(0)
         *lines, rest = output.read().decode("latin-1").split("\n")
     return lines + ([f"{rest} (no line end)"] if rest else []), done.returncode
+
+
+class Session:
+    """The program, asked a record at a time: a record can be made of the lines before it."""
+
+    def __init__(self):
+        self.program = subprocess.Popen([str(PROGRAM)], stdin=subprocess.PIPE, stdout=subprocess.PIPE)
+        self.timer = threading.Timer(SECONDS, self.program.kill)
+        self.timer.start()
+
+    def ask(self, data):
+        self.program.stdin.write(data)
+        self.program.stdin.flush()
+        return self.program.stdout.readline().decode("latin-1").removesuffix("\n")
+
+    def bytes_of(self, data):
+        """The bytes that the line of a done call gives."""
+        status, _, out = self.ask(data).partition(" ")
+        if status != "0":
+            raise AssertionError(f"{data[:16]}.. of {len(data)} bytes answered {status}")
+        return bytes.fromhex(out)
+
+    def close(self):
+        self.program.communicate()
+        self.timer.cancel()
+        if self.program.returncode != 0:
+            raise AssertionError(f"the program ended with {self.program.returncode}")
 
 
 def bytes_line(status, out, size):
@@ -193,9 +224,10 @@ class Calls:
             what, data = f"T {function} {domain:02x}", one_go_record(function, domain, size, message)
         self.call(f"{what} of {len(message)} bytes, {size} asked", data, bytes_line(*answer, size), function=function)
 
-    def permute(self, rounds, state):
-        status, after = one_go.permutation(rounds, state)
-        self.call(f"P {rounds} of {state[:8].hex()}..", permutation_record(rounds, state), bytes_line(status, after, len(state)))
+    def permute(self, rounds, state, op="P"):
+        """Or, where the op is I, undoes these rounds."""
+        status, after = ON_STATE[op](rounds, state)
+        self.call(f"{op} {rounds} of {state[:8].hex()}..", permutation_record(rounds, state, op), bytes_line(status, after, len(state)))
 
     def kt_one_go(self, function, message, custom, size):
         answer = one_go.kt(KT[function], message, custom, size)

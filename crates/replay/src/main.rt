@@ -26,6 +26,7 @@
 //      that string, message
 //   B  1 byte function, 4 bytes L, message                      L bytes of FIPS 202 in one go        as R
 //   P  1 byte n, 200 bytes                                      the last n rounds on this state      status, the 200 bytes
+//   I  as P                                                     the last n rounds undone             as P
 //   n  1 byte function, 4 bytes length of the name or of the    start: where it is 0, its run        status
 //      key, the name or the key, 4 bytes length of the          is in hand
 //      customization string, that string
@@ -102,7 +103,7 @@ fn answer(session: Session, op: u8, payload: &[u8], out: &mut [u8], text: &mut [
         b'M' => keyed_one_go::hash(session, payload, out, text),
         b'T' => one_go::with_domain(session, payload, out, text),
         b'B' => one_go::without_domain(session, payload, out, text),
-        b'P' => permutation::permute(session, payload, out, text),
+        b'P' | b'I' => permutation::answer(session, op, payload, out, text),
         b'K' => one_go::kt(session, payload, out, text),
         b'k' => lent::hash(session, payload, out, text),
         b'H' => hopmac::tag(session, payload, out, text),
