@@ -41,13 +41,15 @@ class OneGo(unittest.TestCase):
             self.assertEqual(one_go.sponge(function, b"message", None, 0), (7, None))
 
     def test_rounds(self):
-        """Up to 24 are done; more answer 16 and leave the bytes."""
+        """Up to 24 are done, or undone; more answer 16 and leave the bytes."""
         state = reference.ptn(200)
         for rounds in range(25):
             status, after = one_go.permutation(rounds, state)
             self.assertEqual((status, reference.state_of(after)), (0, reference.keccak_p(reference.state_of(state), rounds)))
+            self.assertEqual(one_go.inverse(rounds, after), (0, state))
         for rounds in (25, 26, 64, 255):
             self.assertEqual(one_go.permutation(rounds, state), (16, state))
+            self.assertEqual(one_go.inverse(rounds, state), (16, state))
 
     def test_order_of_the_kt_refusals(self):
         self.assertEqual(one_go.kt_status(self.MESSAGE + 1, self.CUSTOM + 1, 0), 2)

@@ -18,7 +18,8 @@ class Malformed(Refused):
         whole = [record("N", b"\1"), record("A", b"ab"), record("F", b"\x1f"), record("R", n=3), set_record(PHASE, 0), record("D")]
         whole += [one_go_record(0, 0x1F, 2, b"xyz"), kt_record(2, b"abc", 2, b"xyz"), record("A", bytes(MOST))]
         whole += [hopmac_record(0, b"key", b"abc", 2, b"xyz"), verify_record(1, b"tag", b"key", b"abc", b"xyz")]
-        whole += [record("C", b"ab"), record("E"), record("F"), fips_record(5, 2, b"xyz"), permutation_record(12, bytes(200))]
+        whole += [record("C", b"ab"), record("E"), record("F"), fips_record(5, 2, b"xyz")]
+        whole += [permutation_record(12, bytes(200), op) for op in "PI"]
         for function in (0, 2, 4, 5):
             for data in whole:
                 for size in {*range(1, min(len(data), 20)), len(data) - 1}:
@@ -26,7 +27,7 @@ class Malformed(Refused):
                         self.refused([(record("N", bytes([function])), "fresh")], data[:size])
 
     def test_unknown_op(self):
-        for op in "\x00\n \xff09fthvcebpmZ":
+        for op in "\x00\n \xff09fthvcebpimZ":
             for n in (0, 1):
                 with self.subTest(op=op, n=n):
                     self.refused_in_a_list(record(op, bytes(n)))
@@ -34,7 +35,7 @@ class Malformed(Refused):
     def test_too_long(self):
         for n in FAR:
             of_others = [(op, function) for op in "AFCE" for function in (2, 3, 4)] + [(op, function) for op in "AF" for function in (5, 9)]
-            for op, function in (*((op, 0) for op in "NAFSDTKHVBP"), *of_others):
+            for op, function in (*((op, 0) for op in "NAFSDTKHVBPI"), *of_others):
                 with self.subTest(op=op, n=n, function=function):
                     self.refused_in_a_list(record(op, bytes(MOST + 1), n=n), function)
             for function in (0, 2, 4, 5, 10):
@@ -62,12 +63,13 @@ class Malformed(Refused):
             self.refused([(fips_record(function, 0, b""), "7 ")], record("Z"))
 
     def test_length_of_a_state(self):
-        """200 bytes after the number of rounds, for every number; neither fewer nor more."""
-        for rounds in (0, 12, 24, 25, 255):
-            for size in (0, 1, 8, 192, 199, 201, 202, 208, 400, MOST - 1):
-                with self.subTest(rounds=rounds, size=size):
-                    self.refused_in_a_list(permutation_record(rounds, bytes(size)))
-        self.refused_in_a_list(record("P"))
+        """200 bytes after the number of rounds, for every number, done or undone; neither fewer nor more."""
+        for op in "PI":
+            for rounds in (0, 12, 24, 25, 255):
+                for size in (0, 1, 8, 192, 199, 201, 202, 208, 400, MOST - 1):
+                    with self.subTest(op=op, rounds=rounds, size=size):
+                        self.refused_in_a_list(permutation_record(rounds, bytes(size), op))
+            self.refused_in_a_list(record(op))
 
     def test_close_of_fips_202_with_bytes(self):
         """It takes none, in any phase, not even the byte that it puts after the message."""
@@ -158,7 +160,7 @@ class Malformed(Refused):
     def test_no_run(self):
         answered = [(one_go_record(0, 0x1F, 0, b""), "7 "), (kt_record(3, b"", 0, b""), "7 ")]
         answered += [(hopmac_record(0, b"", b"", 0, b""), "7 "), (verify_record(1, b"", b"", b"", b""), "7 no")]
-        answered += [(fips_record(5, 0, b""), "7 "), (permutation_record(0, bytes(200)), "0 " + 400 * "0")]
+        answered += [(fips_record(5, 0, b""), "7 "), *((permutation_record(0, bytes(200), op), "0 " + 400 * "0") for op in "PI")]
         calls = record("A", b"ab"), record("A"), record("F", b"\x1f"), record("F"), record("C", b"ab"), record("C"), record("E"), record("R", n=3)
         for data in (*calls, set_record(PHASE, 0), record("D")):
             with self.subTest(op=data[:1]):
