@@ -11,8 +11,11 @@ use borrow.Author.Tests.{eq-eqb, ne-eqb}
 use lib.Bits.{bitXor}
 use lib.ListN.{length, getD, set, length-set}
 use lib.Seq.{getD-set-same, getD-set-other, ext-getD}
+use Rattle.keccak.specs.State.{lane}
+use Rattle.keccak.specs.Round.{parity}
 use Rattle.keccak.specs.Permutation.{lastRounds}
 use Rattle.keccak.proofs.Grid.{from-length, from-at}
+use Rattle.keccak.proofs.Steps.{parity-is}
 use Rattle.keccak.proofs.Rounds.{last-none, all-taken, too-many}
 use Rattle.keccak.proofs.States.{last-rounds-length}
 use Rattle.abreast.specs.Four.{stateAt, interleaved, permuteStatus, permutedFour}
@@ -25,6 +28,26 @@ state-length j s = from-length _ 0 25
 pub state-at : (j : ℕ) (s : List ℕ) (i : ℕ) → i < 25 → getD (stateAt j s) i 0 ≡ getD s (4 * i + j) 0
 unfolding stateAt
 state-at j s i h = from-at (λ k. getD s (4 * k + j) 0) 0 25 i h ∙ ap (λ (k : ℕ). getD s (4 * k + j) 0) (zero-add i)
+
+module _ (j : ℕ) (s : List ℕ) (x : ℕ) where
+  word-lane : (y w : ℕ) → w ≡ 4 * (x % 5 + 5 * (y % 5)) + j → getD s w 0 ≡ lane (stateAt j s) x y
+  word-lane y w e =
+      let h : x % 5 + 5 * (y % 5) < 25 = omega arith in
+      ap (λ (n : ℕ). getD s n 0) e ∙ sym (state-at j s (x % 5 + 5 * (y % 5)) h)
+
+  -- C[x] of state j, in words of the slice; w is the first of them
+  abbrev pub column : ℕ → ℕ
+  column w =
+      bitXor
+      (bitXor
+      (bitXor (bitXor (getD s w 0) (getD s (4 * (x % 5 + 5) + j) 0)) (getD s (4 * (x % 5 + 10) + j) 0))
+      (getD s (4 * (x % 5 + 15) + j) 0))
+      (getD s (4 * (x % 5 + 20) + j) 0)
+
+  pub state-parity : (w : ℕ) → w ≡ 4 * (x % 5 + 0) + j → column w ≡ parity (stateAt j s) x
+  state-parity w e =
+      ap₂ bitXor (ap₂ bitXor (ap₂ bitXor (ap₂ bitXor (word-lane 0 w e) (word-lane 1 _ refl)) (word-lane 2 _ refl)) (word-lane 3 _ refl)) (word-lane 4 _ refl)
+      ∙ sym (parity-is (stateAt j s) x)
 
 -- two states are the same if their lanes are
 same-state : (j k : ℕ) (s t : List ℕ) → ((i : ℕ) → i < 25 → getD s (4 * i + j) 0 ≡ getD t (4 * i + k) 0) → stateAt j s ≡ stateAt k t

@@ -1,6 +1,6 @@
 -- Five planes that were moved, each put through chi to its place, and the round constant: a round.
 -- Assumes nothing.
-use mathlib.Core.Path.{_≡_, refl, _∙_, subst}
+use mathlib.Core.Path.{_≡_, refl, sym, ap, ap₂, _∙_, subst}
 use mathlib.Core.List.{List}
 use Prim.Native.Nat.{ℕ, _+_, _*_, _%_, _<_}
 use native.Mathlib.Nat.{zero-add}
@@ -8,8 +8,11 @@ use native.Mathlib.Omega.{arith}
 use lib.Bits.{bitXor}
 use lib.Dec.{lit<}
 use lib.ListN.{length, getD, set}
-use Rattle.keccak.specs.State.{from, grid}
-use Rattle.keccak.specs.Round.{parity, theta, rho, pi, chi, iota, round}
+use Rattle.keccak.specs.State.{from}
+use Rattle.keccak.specs.Round.{rotl, parity, iota, round}
+use Rattle.keccak.proofs.Grid.{from-lanes}
+use Rattle.keccak.proofs.Steps.{parity-same, iota-is}
+use Rattle.keccak.proofs.Planes as planes
 use Rattle.abreast.specs.declared.round.Plane.{Plane}
 use Rattle.abreast.specs.Four.{stateAt}
 use Rattle.abreast.specs.Inside.{One}
@@ -42,18 +45,54 @@ module _ (j y : ℕ) (b : Plane) (s : List ℕ) (hj : j < 4) (hy : y < 5) (hs : 
 abbrev pub before : List ℕ → ℕ → Plane
 before a y = moved a (effect a) y
 
+-- the five planes of a, with d for theta's D, put through chi to their places in l, and the round constant
+abbrev made : List ℕ → ℕ → Plane → List ℕ → List ℕ
+made a rc d l =
+    let t : List ℕ = placed 4 (moved a d 4) (placed 3 (moved a d 3) (placed 2 (moved a d 2) (placed 1 (moved a d 1) (placed 0 (moved a d 0) l)))) in
+    set t 0 (bitXor (getD t 0 0) rc)
+
+-- D[x] by the columns x - 1 and x + 1, as x + 4 and x + 1
+abbrev between : List ℕ → ℕ → ℕ
+between a x = bitXor (parity a (x + 4)) (rotl (parity a (x + 1)) 1)
+
+abbrev columns : List ℕ → Plane
+columns a = record { 0 = between a 0; 1 = between a 1; 2 = between a 2; 3 = between a 3; 4 = between a 4 }
+
+effect-columns : (a : List ℕ) → effect a ≡ columns a
+unfolding effect
+effect-columns a =
+    λ i.
+    record {
+      0 = between a 0;
+      1 = bitXor (parity-same a 0 5 refl i) (rotl (parity a 2) 1);
+      2 = bitXor (parity-same a 1 6 refl i) (rotl (parity a 3) 1);
+      3 = bitXor (parity-same a 2 7 refl i) (rotl (parity a 4) 1);
+      4 = bitXor (parity-same a 3 8 refl i) (rotl (parity-same a 0 5 refl i) 1);
+    }
+
+made-round : (a : List ℕ) (rc : ℕ) (f : ℕ → ℕ) → made a rc (columns a) (from 0 25 f) ≡ round rc a
+unfolding turned moved placed
+made-round a rc f = ap (made a rc (columns a)) (from-lanes f) ∙ planes.planes-round a rc
+
+state-from : (j : ℕ) (s : List ℕ) → stateAt j s ≡ from 0 25 (λ i. getD s (4 * i + j) 0)
+unfolding stateAt
+state-from j s = refl
+
 -- all five, put through chi to their places
 abbrev all-placed : List ℕ → List ℕ
 all-placed a = placed 4 (before a 4) (placed 3 (before a 3) (placed 2 (before a 2) (placed 1 (before a 1) (placed 0 (before a 0) a))))
 
 planes-round : (j rc : ℕ) (s : List ℕ) → iota rc (all-placed (stateAt j s)) ≡ round rc (stateAt j s)
-unfolding stateAt from grid round iota chi pi rho theta parity effect turned moved placed
-planes-round j rc s = refl
+planes-round j rc s =
+    let a : List ℕ = stateAt j s in
+    iota-is (all-placed a) rc ∙ ap₂ (made a rc) (effect-columns a) (state-from j s) ∙ made-round a rc (λ i. getD s (4 * i + j) 0)
 
 -- iota of state j
 pub one-iota : (j rc : ℕ) (s : List ℕ) → j < 4 → length s ≡ 100 → One j (iota rc) s (set s j (bitXor (getD s j 0) rc))
-unfolding iota
-one-iota j rc s hj hs = subst (λ (n : ℕ). One j (iota rc) s (set s n (bitXor (getD s n 0) rc))) (zero-add j) (one-xor j 0 rc s hj (lit< tt) hs)
+one-iota j rc s hj hs =
+    let p =
+    subst (λ (n : ℕ). One j (λ l. set l 0 (bitXor (getD l 0 0) rc)) s (set s n (bitXor (getD s n 0) rc))) (zero-add j) (one-xor j 0 rc s hj (lit< tt) hs) in
+    record { words = p .words; own = p .own ∙ sym (iota-is (stateAt j s) rc); other = p .other }
 
 -- a round of state j, from s by five planes and iota to t
 module _ (j rc : ℕ) (s s0 s1 s2 s3 s4 t : List ℕ) (b0 b1 b2 b3 b4 : Plane) where

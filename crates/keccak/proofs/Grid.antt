@@ -19,6 +19,13 @@ pub from-five : (f : ℕ → ℕ) → from 0 5 f ≡ f 0 ∷ f 1 ∷ f 2 ∷ f 3
 unfolding from
 from-five f = refl
 
+pub from-lanes : (f : ℕ → ℕ)
+    → from 0 25 f
+    ≡ f 0 ∷ f 1 ∷ f 2 ∷ f 3 ∷ f 4 ∷ f 5 ∷ f 6 ∷ f 7 ∷ f 8 ∷ f 9 ∷ f 10 ∷ f 11 ∷ f 12 ∷ f 13 ∷ f 14 ∷ f 15 ∷ f 16 ∷ f 17 ∷ f 18 ∷ f 19
+    ∷ f 20 ∷ f 21 ∷ f 22 ∷ f 23 ∷ f 24 ∷ []
+unfolding from
+from-lanes f = refl
+
 pub from-at : (f : ℕ → ℕ) (i n k : ℕ) → k < n → getD (from i n f) k 0 ≡ f (i + k)
 unfolding from
 from-at f i zero k h = absurd (not-suc-le-zero h)

@@ -1,4 +1,4 @@
--- Laws of the permutation. Callers use `States` and `Bytes`, and where they look into a state or a round `Steps`, `Rounds`, `Grid`, `Bits`, `Words`,
+-- Laws of the permutation. Callers use `States` and `Bytes`, and where they look into a state or a round `Steps`, `Planes`, `Rounds`, `Grid`, `Bits`, `Words`,
 -- `Offsets`, `Table` and `Xor`; `Claims` is what is claimed of the steps, from `Bitwise`, `RegisterBits` and `ConstantBits`; the rest serves the functions' own proofs.
 pub mod Xor
 pub mod Table
