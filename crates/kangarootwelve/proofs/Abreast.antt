@@ -16,7 +16,7 @@ use Rattle.sponge.specs.Published.{xorByte}
 use Rattle.sponge.specs.Waiting.{ready}
 use Rattle.sponge.specs.Four.{stringAt, xoredFour}
 use Rattle.sponge.specs.Model.{Sponge, absorbBytes, pad}
-use Rattle.sponge.proofs.Abreast.{xor-fits, xored-each}
+use Rattle.sponge.proofs.Abreast.{string-is, xor-fits, xored-each}
 use Rattle.sponge.proofs.Blocks.{ready-full, ready-other, absorb-part, absorb-done, pad-part}
 use Rattle.turboshake.specs.Published.{turboshakeRounds}
 use Rattle.kangarootwelve.specs.Published.{chunk}
@@ -28,9 +28,9 @@ quarter : (s : List ℕ) → length s ≡ 32768 → length s / 4 ≡ 8192
 quarter s e = ap (λ (n : ℕ). n / 4) e
 
 string-chunk : (s : List ℕ) (k : ℕ) → length s ≡ 32768 → stringAt k s ≡ chunkAt k s
-unfolding stringAt chunkAt chunk
+unfolding chunkAt chunk
 string-chunk s k e =
-    ap (λ (n : ℕ). take n (drop (n * k) s)) (quarter s e) ∙ ap (λ (n : ℕ). take 8192 (drop n s)) (mul-comm 8192 k)
+    string-is k s ∙ ap (λ (n : ℕ). take n (drop (n * k) s)) (quarter s e) ∙ ap (λ (n : ℕ). take 8192 (drop n s)) (mul-comm 8192 k)
 
 pub chunk-length : (s : List ℕ) (k : ℕ) → k < 4 → length s ≡ 32768 → length (chunkAt k s) ≡ 8192
 unfolding chunkAt chunk

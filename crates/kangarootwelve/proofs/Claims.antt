@@ -11,7 +11,6 @@ use Rattle.keccak.specs.Permutation.{permuted}
 use Rattle.abreast.specs.Four.{statesStatus}
 use Rattle.sponge.specs.Waiting.{At, positionAfter, indexAfter}
 use Rattle.sponge.specs.Count.{Counted, spongeOf}
-use Rattle.sponge.specs.Model.{padWith}
 use Rattle.sponge.specs.Transcript.{Call, Phase, Phase.absorbing, Phase.customizing, Phase.squeezing, phaseNumber, Transcript, Reply}
 use Rattle.sponge.specs.Callable.{All}
 use Rattle.sponge.specs.Runs as runs
@@ -20,6 +19,7 @@ use Rattle.sponge.specs.Lending.{CallWith, unlessRefused, plainly}
 use Rattle.sponge.specs.Streaming as streaming
 use Rattle.sponge.specs.Streaming.{History}
 use Rattle.sponge.proofs.Position.{After}
+use Rattle.sponge.proofs.Valid.{pad-with-position}
 use Rattle.sponge.proofs.Count.{added, after-counted, open-words, closed-words}
 use Rattle.sponge.proofs.Lending.{told-fits-with, history-plainly, taken, left-taken, taken-can}
 use Rattle.sponge.proofs.Reachable as generic
@@ -46,9 +46,8 @@ module _ (rate chaining : ℕ) (pos : 0 < rate) where
       third-is (absorb-due rate chaining pos 0 freshNodes s 0 (fresh-due rate chaining pos)) ∙ ap (openKt rate chaining) (zero-add (length s))
 
   closed-at-0 : (k : ℕ) (f l : Counted) → closeToOf lanesCounted rate chaining k f l .position ≡ 0
-  unfolding padWith
-  closed-at-0 zero f l = refl
-  closed-at-0 (suc k) f l = refl
+  closed-at-0 zero f l = pad-with-position _ rate _ f _
+  closed-at-0 (suc k) f l = pad-with-position _ rate _ _ _
 
   -- the close after M and C
   module _ (f c : List ℕ) where

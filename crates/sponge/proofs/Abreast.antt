@@ -42,6 +42,10 @@ part-of s b c m n h =
     ∙ take-take n d (drop m (drop b s)) g
     ∙ ap (λ (l : List ℕ). take n l) (drop-drop m b s))
 
+pub string-is : (k : ℕ) (s : List ℕ) → stringAt k s ≡ take (length s / 4) (drop (length s / 4 * k) s)
+unfolding stringAt
+string-is k s = refl
+
 pub string-part : (s : List ℕ) (k m n : ℕ) → m + n ≤ length s / 4 → take n (drop (length s / 4 * k + m) s) ≡ take n (drop m (stringAt k s))
 unfolding stringAt
 string-part s k m n h = part-of s (length s / 4 * k) (length s / 4) m n h

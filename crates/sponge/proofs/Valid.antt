@@ -9,7 +9,8 @@ use lib.ListN.{length, replicate}
 use lib.Dec.{leb}
 use borrow.Author.Tests.{leb-true, le-leb, lt-leb}
 use Rattle.keccak.specs.Permutation.{roundsStatus, lastRounds}
-use Rattle.sponge.specs.Published.{zeroLanes}
+use Rattle.sponge.specs.Published.{xorByte, zeroLanes}
+use Rattle.sponge.specs.Waiting.{At}
 use Rattle.sponge.specs.Status.{done, unreachable}
 use Rattle.sponge.specs.Model.{Sponge, absorbBytes, pad, padWith, squeezeBytes, afterBytes, valid, callStatus, outcome, absorbCall, padCall, squeezeCall, squeezeOutput}
 use Rattle.sponge.proofs.FirstStatus.{first-zero}
@@ -103,7 +104,10 @@ pub zero-lanes : zeroLanes ≡ replicate 25 0
 unfolding zeroLanes
 zero-lanes = refl
 
--- a padded block is a new one
-pub pad-position : (P : List ℕ → List ℕ) (rate : ℕ) (s : Sponge) (d : ℕ) → pad P rate s d .position ≡ 0
+-- a padded block is a new one, whatever is permuted
+pub pad-with-position : {X : Type 0} (P : X → X) (rate : ℕ) (put : X → ℕ → ℕ → X) (s : At X) (d : ℕ) → padWith P rate put s d .position ≡ 0
 unfolding padWith
-pad-position P rate s d = refl
+pad-with-position P rate put s d = refl
+
+pub pad-position : (P : List ℕ → List ℕ) (rate : ℕ) (s : Sponge) (d : ℕ) → pad P rate s d .position ≡ 0
+pad-position P rate s d = pad-with-position P rate xorByte s d
