@@ -15,7 +15,7 @@ module _ (f g : List ℕ → List ℕ) (fs : (a : List ℕ) → State a → Stat
     (undone : (a : List ℕ) → State a → g (f a) ≡ a) (done : (a : List ℕ) → State a → f (g a) ≡ a) where
   -- what is undone sends no two states to one
   inverse : Inverse f g
-  inverse = record { state = fs; unstate = gs; undone = undone; done = done; injective = λ a b s t e. sym (undone a s) ∙ ap g e ∙ undone b t }
+  inverse = record { state = fs; inverse-state = gs; undone = undone; done = done; injective = λ a b s t e. sym (undone a s) ∙ ap g e ∙ undone b t }
 
 pub claims : Claims
 claims = record {

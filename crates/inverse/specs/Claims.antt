@@ -11,7 +11,7 @@ use Rattle.inverse.specs.Inverse.{untheta, unrho, unpi, unchi, unround, 
 -- f and g take states to states and undo each other; so f sends no two states to one
 pub record Inverse (f g : List ℕ → List ℕ) : Type 0 where
   pub state : (a : List ℕ) → State a → State (f a)
-  pub unstate : (a : List ℕ) → State a → State (g a)
+  pub inverse-state : (a : List ℕ) → State a → State (g a)
   pub undone : (a : List ℕ) → State a → g (f a) ≡ a
   pub done : (a : List ℕ) → State a → f (g a) ≡ a
   pub injective : (a b : List ℕ) → State a → State b → f a ≡ f b → a ≡ b
