@@ -1,4 +1,6 @@
 // Keccak-p[1600, n] of four states abreast: lane i of state j is word 4 i + j of a lent slice of 100 words.
+#![tactic(auto)]
+
 mod round;
 
 ghost use Rattle.std.specs.Prelude.{◌≡◌, length, replicate};

@@ -9,7 +9,7 @@ ghost use Rattle.abreast.specs.Inside.{One, Each};
 ghost use Rattle.abreast.specs.Planes.{effect, turned, moved, mixed, placed};
 
 // Five words by their x before pi: theta's D, or plane y, whose lane k stands at x = k + 2 y.
-#[derive(Drop)]
+#[derive(Clone, Copy)]
 struct Plane(u64, u64, u64, u64, u64);
 
 // theta's D of state j.

@@ -1,4 +1,6 @@
 // What the benchmarks of bench/ call through the C calling convention.
+#![tactic(auto)]
+
 mod fips;
 mod four;
 mod in_place;

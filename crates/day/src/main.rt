@@ -4,6 +4,8 @@
 //
 // Writes a line for each: `shift` or `clerk`, and the 32 bytes of the digest in hex; or `refused`, and the status of a call that was
 // not answered 0.
+#![tactic(auto)]
+
 ghost use Rattle.std.specs.Prelude.{◌≡◌, [], ◌∷◌, ◌++◌, ◌+◌, ◌≤◌, length, take};
 ghost use Rattle.sponge.specs.Status.{done};
 ghost use Rattle.journal.specs.Published.{framed, digest};

@@ -1,6 +1,8 @@
 // Reads standard input in pieces and writes KT128 of it, with an empty customization string: 32 bytes in hex and a line end. The line
 // is `too long` where an absorb answers that, and `read failed` where a read fails before; why it failed is told on standard error.
 // With an argument it reads nothing and writes a usage line, on standard error alone.
+#![tactic(auto)]
+
 ghost use Rattle.std.specs.Prelude.{◌≡◌, ◌≤◌, length, take};
 ghost use Rattle.io.specs.Counts.{clamp_len};
 ghost use Rattle.sponge.specs.Transcript.{Call};
@@ -13,7 +15,7 @@ use libc::{STDERR_FILENO, STDIN_FILENO, STDOUT_FILENO};
 use sponge::status::{DONE, INPUT_TOO_LONG};
 
 // What the last absorb answered, and the last read: the number of bytes, 0 at the input's end, or a negative number.
-#[derive(Drop)]
+#[derive(Clone, Copy)]
 struct Absorbed {
     answer: Answer128,
     got: isize,

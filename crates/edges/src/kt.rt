@@ -22,7 +22,7 @@ const CUSTOMIZATIONS: [usize; 6] = [0, 1, 255, 256, 65535, 65536];
 // The lengths of a message and of a customization string. In the tables first those of one, two, two and three chunks; then three
 // single nodes and four leaves that are one byte short of whole blocks, leaves of a block and of a block and a byte, and a final node
 // that ends as near to a block's end as one can.
-#[derive(Drop)]
+#[derive(Clone, Copy)]
 struct Pair(usize, usize);
 
 const PAIRS_128: [Pair; 14] = [

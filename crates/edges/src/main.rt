@@ -2,6 +2,8 @@
 // sides of those that are taken, in one go and cut into small pieces. Writes a line for each: the function, `one` or `cut`, the
 // message's length, the domain byte, the bytes asked, the status and the output buffer. Messages are the draft's test pattern
 // ptn; the buffer holds A5 in every byte before the calls. Then the same for KT.
+#![tactic(auto)]
+
 mod kt;
 
 ghost use Rattle.std.specs.Prelude.{◌≡◌, ◌≤◌, min, length};

@@ -1,5 +1,7 @@
 // The functions of FIPS 202, section 6, for messages of whole bytes, in one go and in pieces: a type for each, whose calls stand in `sha3`, `shake`
 // and, on lent lanes, in `in_place`. They are `hasher`'s, given the function's numbers.
+#![tactic(auto)]
+
 mod in_place;
 mod sha3;
 mod shake;
@@ -22,78 +24,78 @@ pub const MESSAGE_LIMIT: u64 = hasher::MESSAGE_LIMIT;
 pub const OUTPUT_LIMIT: u64 = hasher::LONG_OUTPUT as u64;
 
 // A run of SHA3-224.
-#[derive(Drop)]
+#[derive(Clone, Copy)]
 pub struct Sha3_224 {
     pub run: Run,
 }
 
 // What a call on it answers: the status, and the run, which is the one given where the status is not 0.
-#[derive(Drop)]
+#[derive(Clone, Copy)]
 pub struct Sha3_224Answer {
     pub hasher: Sha3_224,
     pub status: u8,
 }
 
 // A run of SHA3-256.
-#[derive(Drop)]
+#[derive(Clone, Copy)]
 pub struct Sha3_256 {
     pub run: Run,
 }
 
 // What a call on it answers: the status, and the run, which is the one given where the status is not 0.
-#[derive(Drop)]
+#[derive(Clone, Copy)]
 pub struct Sha3_256Answer {
     pub hasher: Sha3_256,
     pub status: u8,
 }
 
 // A run of SHA3-384.
-#[derive(Drop)]
+#[derive(Clone, Copy)]
 pub struct Sha3_384 {
     pub run: Run,
 }
 
 // What a call on it answers: the status, and the run, which is the one given where the status is not 0.
-#[derive(Drop)]
+#[derive(Clone, Copy)]
 pub struct Sha3_384Answer {
     pub hasher: Sha3_384,
     pub status: u8,
 }
 
 // A run of SHA3-512.
-#[derive(Drop)]
+#[derive(Clone, Copy)]
 pub struct Sha3_512 {
     pub run: Run,
 }
 
 // What a call on it answers: the status, and the run, which is the one given where the status is not 0.
-#[derive(Drop)]
+#[derive(Clone, Copy)]
 pub struct Sha3_512Answer {
     pub hasher: Sha3_512,
     pub status: u8,
 }
 
 // A run of SHAKE128.
-#[derive(Drop)]
+#[derive(Clone, Copy)]
 pub struct Shake128 {
     pub run: Run,
 }
 
 // What a call on it answers: the status, and the run, which is the one given where the status is not 0.
-#[derive(Drop)]
+#[derive(Clone, Copy)]
 pub struct Shake128Answer {
     pub hasher: Shake128,
     pub status: u8,
 }
 
 // A run of SHAKE256.
-#[derive(Drop)]
+#[derive(Clone, Copy)]
 pub struct Shake256 {
     pub run: Run,
 }
 
 // What a call on it answers: the status, and the run, which is the one given where the status is not 0.
-#[derive(Drop)]
+#[derive(Clone, Copy)]
 pub struct Shake256Answer {
     pub hasher: Shake256,
     pub status: u8,

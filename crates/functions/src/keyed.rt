@@ -9,7 +9,7 @@ use sp800_185::{
     Kmac256Answer, KmacXof128, KmacXof128Answer, KmacXof256, KmacXof256Answer,
 };
 
-#[derive(Drop)]
+#[derive(Clone, Copy)]
 pub enum KeyedFunction {
     CShake128,
     CShake256,
@@ -20,7 +20,7 @@ pub enum KeyedFunction {
 }
 
 // A run of any of them: one of cSHAKE has the bit that says SHAKE, one of KMAC the output length. What a run does not have is false or 0.
-#[derive(Drop)]
+#[derive(Clone, Copy)]
 pub struct KeyedRun {
     pub run: Run,
     pub shake: bool,
@@ -28,7 +28,7 @@ pub struct KeyedRun {
 }
 
 // What a call on a run answers: the run handed back, and the status.
-#[derive(Drop)]
+#[derive(Clone, Copy)]
 pub struct KeyedAnswer {
     pub keyed: KeyedRun,
     pub status: u8,

@@ -7,14 +7,14 @@ ghost use Rattle.functions.specs.Kt.{rate_of, chaining_of, answer_in, abreast_in
 
 use kangarootwelve::{Answer128, Answer256, Kt128, Kt256, Run};
 
-#[derive(Drop)]
+#[derive(Clone, Copy)]
 pub enum KtFunction {
     Kt128,
     Kt256,
 }
 
 // What a call on a run answers: the run handed back, and the status.
-#[derive(Drop)]
+#[derive(Clone, Copy)]
 pub struct KtAnswer {
     pub run: Run,
     pub status: u8,

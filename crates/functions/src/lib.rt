@@ -1,5 +1,7 @@
 // The functions that are the sponge, for programs that choose one while they run: a function is its numbers, and each call is `hasher`'s, given them.
 // `kt` does the same for KT, `keyed` for the functions of SP 800-185.
+#![tactic(auto)]
+
 pub mod keyed;
 pub mod kt;
 
@@ -17,7 +19,7 @@ use turboshake::{TurboShake128, TurboShake256};
 
 // The rate, the rounds and the read limit; whether the close gives the byte after the message, as TurboSHAKE's domain byte; and that byte where it
 // does not (0, and not looked at, where it does).
-#[derive(Drop)]
+#[derive(Clone, Copy)]
 pub struct Function {
     pub rate: usize,
     pub rounds: usize,
@@ -27,7 +29,7 @@ pub struct Function {
 }
 
 // The byte after the message, and its status.
-#[derive(Drop)]
+#[derive(Clone, Copy)]
 struct Ending {
     byte: u8,
     status: u8,

@@ -1,5 +1,7 @@
 // A hasher: the sponge as a run that is absorbed into, finalized and squeezed, and in one go. What the functions above differ in, the rate, the
 // rounds, the last byte and the most bytes of output, each call is given.
+#![tactic(auto)]
+
 mod calls;
 pub mod in_place;
 
@@ -18,7 +20,7 @@ pub const LONG_OUTPUT: u32 = 4294967295;
 
 // A run: document 01's fixed-size state with its place, phase (0 absorbing, 1 squeezing), bytes fed and bytes read, and request Q-10's permutations
 // of the definition so far.
-#[derive(Drop)]
+#[derive(Clone, Copy)]
 pub struct Run {
     pub lanes: [u64; 25],
     pub position: usize,
@@ -29,7 +31,7 @@ pub struct Run {
 }
 
 // What a run holds beside its lanes.
-#[derive(Drop)]
+#[derive(Clone, Copy)]
 pub struct Progress {
     pub position: usize,
     pub phase: u8,
@@ -39,14 +41,14 @@ pub struct Progress {
 }
 
 // What a call on lent lanes answers: the status, and what the run then holds beside them, which is what was given where the status is not 0.
-#[derive(Drop)]
+#[derive(Clone, Copy)]
 pub struct Moved {
     pub at: Progress,
     pub status: u8,
 }
 
 // What a call answers: the status, and the run, which is the one given where the status is not 0.
-#[derive(Drop)]
+#[derive(Clone, Copy)]
 pub struct Answer {
     pub run: Run,
     pub status: u8,

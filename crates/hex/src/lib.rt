@@ -1,4 +1,6 @@
 // Bytes as text: two lower-case hex digits each.
+#![tactic(auto)]
+
 ghost use Rattle.std.specs.Prelude.{◌≡◌, ◌+◌, ◌/◌, ◌%◌, ◌<◌, length, set};
 ghost use Rattle.hex.specs.Hex.{fits, with_hex};
 ghost use Rattle.hex.specs.Hex.{digit as Hex·digit};

@@ -1,4 +1,6 @@
 // Nothing is lost between blocks: of two runs of one function that absorb one piece.
+#![tactic(auto)]
+
 ghost use Rattle.std.specs.Prelude.{◌≡◌};
 ghost use Rattle.sponge.specs.Transcript.{Call};
 ghost use Rattle.hasher.specs.Model.{numbers, answer_of};
@@ -6,7 +8,7 @@ ghost use Rattle.hasher.specs.Model.{numbers, answer_of};
 use hasher::{Answer, Run};
 
 // What a call on two runs answers.
-#[derive(Drop)]
+#[derive(Clone, Copy)]
 pub struct Both {
     pub first: Answer,
     pub second: Answer,

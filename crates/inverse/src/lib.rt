@@ -1,4 +1,6 @@
 // The inverse of the permutation of `keccak`: the last n of the 24 rounds undone, the last first (request Q-13).
+#![tactic(auto)]
+
 mod unround;
 
 ghost use Rattle.std.specs.Prelude.{◌≡◌};
@@ -26,7 +28,7 @@ pub fn unpermute_in_place(lanes: &mut [u64; 25], rounds: usize) -> u8
 }
 
 // What `unpermute` answers: its status, and the lanes.
-#[derive(Drop)]
+#[derive(Clone, Copy)]
 pub struct Unpermuted {
     pub lanes: [u64; 25],
     pub status: u8,

@@ -1,5 +1,7 @@
 // A day of events: a run of KT128 whose customization string is the station's name and whose message is the day's events in order, each
 // followed by its length encoding.
+#![tactic(auto)]
+
 ghost use Rattle.std.specs.Prelude.{◌≡◌, ◌++◌, length};
 ghost use Rattle.sponge.specs.Status.{event_too_long, first_of};
 ghost use Rattle.sponge.specs.Transcript.{Call};
@@ -14,13 +16,13 @@ use sponge::status;
 pub const EVENT_LIMIT: u64 = 65535;
 
 // A day: document 01, with the message of request Q-1. Its run is KT128's: two states, the phase, the three totals and the permutations, however long the day.
-#[derive(Drop)]
+#[derive(Clone, Copy)]
 pub struct Journal {
     pub run: Run,
 }
 
 // What a call answers: the status, and the day, which is the one given where the status is not 0.
-#[derive(Drop)]
+#[derive(Clone, Copy)]
 pub struct Answer {
     pub journal: Journal,
     pub status: u8,

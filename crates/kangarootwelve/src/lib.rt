@@ -3,6 +3,8 @@
 //
 // A type for each strength, whose calls stand in `strength128` and `strength256`; what they share stands in `by_value`, `calls`, `reached`, `totals`, `tree`, `fours`, `leaves`,
 // `one_go`, `encode` and `hopmac`, over the rate, the length of a chaining value and that of an inner digest.
+#![tactic(auto)]
+
 mod by_value;
 mod calls;
 mod encode;
@@ -48,7 +50,7 @@ pub const FINAL_NODE: u8 = tree::FINAL_NODE;
 pub const TAG_LIMIT: u64 = 64;
 
 // A sponge's state: document 01's 25 lanes and place within the block.
-#[derive(Drop)]
+#[derive(Clone, Copy)]
 pub struct State {
     pub lanes: [u64; 25],
     pub position: usize,
@@ -56,7 +58,7 @@ pub struct State {
 
 // A run: the state of the final node and of the leaf in hand, the phase (0 absorbing, 1 squeezing, 2 customizing), document 01's bytes fed,
 // which are M's alone, request Q-2's customization bytes, document 01's bytes read, and request Q-10's permutations of the definition so far.
-#[derive(Drop)]
+#[derive(Clone, Copy)]
 pub struct Run {
     pub node: State,
     pub leaf: State,
@@ -68,7 +70,7 @@ pub struct Run {
 }
 
 // What a run holds beside its lanes: the two positions, the phase, the totals and the permutations.
-#[derive(Drop)]
+#[derive(Clone, Copy)]
 struct Progress {
     node: usize,
     leaf: usize,
@@ -80,21 +82,21 @@ struct Progress {
 }
 
 // What a call leaves of a run beside its lanes, and its status.
-#[derive(Drop)]
+#[derive(Clone, Copy)]
 struct Moved {
     at: Progress,
     status: u8,
 }
 
 // What a call answers, whatever the strength.
-#[derive(Drop)]
+#[derive(Clone, Copy)]
 struct Answered {
     run: Run,
     status: u8,
 }
 
 // Where the next byte of S goes: the two positions, the number of the chunk in hand, and the bytes of it that were absorbed.
-#[derive(Drop)]
+#[derive(Clone, Copy)]
 struct Place {
     node: usize,
     leaf: usize,
@@ -103,54 +105,54 @@ struct Place {
 }
 
 // The positions of the final node and of the leaf that four chunks leave, the last of them open.
-#[derive(Drop)]
+#[derive(Clone, Copy)]
 struct FourOpen {
     node: usize,
     leaf: usize,
 }
 
 // A run of KT128.
-#[derive(Drop)]
+#[derive(Clone, Copy)]
 pub struct Kt128 {
     pub run: Run,
 }
 
 // What a call answers: the status, and the run, which is the one given where the status is not 0.
-#[derive(Drop)]
+#[derive(Clone, Copy)]
 pub struct Answer128 {
     pub hasher: Kt128,
     pub status: u8,
 }
 
 // A run of KT256.
-#[derive(Drop)]
+#[derive(Clone, Copy)]
 pub struct Kt256 {
     pub run: Run,
 }
 
-#[derive(Drop)]
+#[derive(Clone, Copy)]
 pub struct Answer256 {
     pub hasher: Kt256,
     pub status: u8,
 }
 
 // HopMAC128: the draft's section 4.
-#[derive(Drop)]
+#[derive(Clone, Copy)]
 pub struct HopMac128 {}
 
 // HopMAC256.
-#[derive(Drop)]
+#[derive(Clone, Copy)]
 pub struct HopMac256 {}
 
 // The draft's length_encode of a number: the bytes from `start` on. Those before them are zeros.
-#[derive(Drop)]
+#[derive(Clone, Copy)]
 pub struct LengthEncoding {
     pub bytes: [u8; 9],
     pub start: usize,
 }
 
 // What the tag check answers: the status, and whether the presented tag is right, document 01's yes and no.
-#[derive(Drop)]
+#[derive(Clone, Copy)]
 pub struct Verdict {
     pub status: u8,
     pub valid: bool,

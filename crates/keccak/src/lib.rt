@@ -2,6 +2,8 @@
 //
 // A state is 25 lanes of 64 bits. Lane (x, y) stands at x + 5 y, and is bytes 8 (x + 5 y) to
 // 8 (x + 5 y) + 7 of the state's 200 bytes, the least significant first.
+#![tactic(auto)]
+
 mod round;
 
 ghost use Rattle.std.specs.Prelude.{◌≡◌, ◌%◌};
@@ -76,7 +78,7 @@ pub fn permute_in_place(lanes: &mut [u64; 25], rounds: usize) -> u8
 }
 
 // What `permute` answers: its status, and the lanes.
-#[derive(Drop)]
+#[derive(Clone, Copy)]
 pub struct Permuted {
     pub lanes: [u64; 25],
     pub status: u8,

@@ -10,7 +10,7 @@ ghost use Rattle.keccak.specs.Round as spec;
 use crate::{OFFSETS, rotate_left};
 
 // Five words by their x before pi: theta's D, or plane y, whose lane k stands at x = k + 2 y.
-#[derive(Drop)]
+#[derive(Clone, Copy)]
 struct Plane(u64, u64, u64, u64, u64);
 
 // theta's D, made with C[1] inverted, so that D[0] and D[2] come out inverted.

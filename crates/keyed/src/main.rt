@@ -4,6 +4,8 @@
 // Writes a line for each: the function, the lengths of N or the key, of S, of the message and of the output; `one` with the status and the buffer of the
 // call in one go; `cut` with those of a run; `more` with the status and the byte of one read more. Then for KMAC a line for each of its output lengths:
 // `close`, the length, the status of the close, and the status and the buffer of a read after it.
+#![tactic(auto)]
+
 mod line;
 mod pieces;
 
@@ -27,7 +29,7 @@ const OUTPUTS: [u64; 12] = [
 ];
 
 // The lengths of N or the key, of S, of the message and of the output.
-#[derive(Drop)]
+#[derive(Clone, Copy)]
 struct Lengths(usize, usize, usize, usize);
 
 // 00 to FA, over and over.

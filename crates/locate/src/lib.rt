@@ -3,6 +3,8 @@
 //
 // `lengths` has the statuses, `chunks` a chunk's value, `values` the list, `digest` the digest worked out from it, `compare` the comparison, `replace` what
 // a repair writes.
+#![tactic(auto)]
+
 mod chunks;
 mod compare;
 mod digest;
@@ -17,7 +19,7 @@ use kangarootwelve::{CHUNK, Kt128};
 use sponge::status;
 
 // What a check finds.
-#[derive(Drop)]
+#[derive(Clone, Copy)]
 pub enum Found {
     // The call is refused with this status.
     Refused(u8),

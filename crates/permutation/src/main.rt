@@ -1,5 +1,7 @@
 // Permutes the all-zero state and the state whose 200 bytes are ptn(200), and writes the lanes of
 // each in hexadecimal: a line for each y, lane (0, y) first.
+#![tactic(auto)]
+
 ghost use Rattle.std.specs.Prelude.{◌<◌};
 
 use libc::STDOUT_FILENO;

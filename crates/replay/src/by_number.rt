@@ -4,7 +4,7 @@ use functions::keyed::KeyedFunction;
 use functions::kt::KtFunction;
 
 // The function that a number names, or that the run in hand has; or none.
-#[derive(Drop)]
+#[derive(Clone, Copy)]
 pub enum Chosen {
     Sponge(Function),
     Kt(KtFunction),

@@ -7,26 +7,26 @@ use functions::keyed::{KeyedFunction, KeyedRun};
 use kangarootwelve::State;
 
 // The run with a field written; or the run as it was, where it has no such field or the field's type cannot hold the value.
-#[derive(Drop)]
+#[derive(Clone, Copy)]
 pub struct Written {
     pub is_done: bool,
     pub run: hasher::Run,
 }
 
-#[derive(Drop)]
+#[derive(Clone, Copy)]
 pub struct KeyedWritten {
     pub is_done: bool,
     pub keyed: KeyedRun,
 }
 
-#[derive(Drop)]
+#[derive(Clone, Copy)]
 pub struct KtWritten {
     pub is_done: bool,
     pub run: kangarootwelve::Run,
 }
 
 // What a run of SP 800-185 has beside the fields of every run: cSHAKE's the bit, KMAC's the output length.
-#[derive(Drop)]
+#[derive(Clone, Copy)]
 pub enum OwnField {
     Bit,
     Length,

@@ -43,6 +43,8 @@
 // where there are none, `zero` or `other`.
 //
 // The input's end before a record ends the program. Any other record, or one that does not fit: `bad record`, and the end.
+#![tactic(auto)]
+
 mod by_number;
 mod field;
 mod hopmac;

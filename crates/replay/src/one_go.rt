@@ -75,7 +75,7 @@ pub fn without_domain(session: Session, payload: &[u8], out: &mut [u8], text: &m
 }
 
 // What a payload of KT asks: so many bytes, of the customization string from `from` to `end` and of the message after it; and whether it fits.
-#[derive(Drop)]
+#[derive(Clone, Copy)]
 pub struct KtAsked {
     pub fits: bool,
     pub function: KtFunction,

@@ -4,7 +4,7 @@ ghost use Rattle.std.specs.Prelude.{◌≤◌, length};
 use crate::number;
 
 // Bytes of a payload after the four of their length, from `from` to `end`; and whether the payload has so many.
-#[derive(Drop)]
+#[derive(Clone, Copy)]
 pub struct Part {
     pub fits: bool,
     pub from: usize,

@@ -12,7 +12,7 @@ pub const MOST: u64 = 262144;
 
 // The function of the run in hand, where there is one: the run of its kind is in hand, the other is not used; a day's run is one of
 // KT. A run of SP 800-185 has a bit or an output length beside. And whether a further record is read.
-#[derive(Drop)]
+#[derive(Clone, Copy)]
 pub struct Session {
     pub is_going: bool,
     pub chosen: Chosen,

@@ -3,6 +3,8 @@
 // The position is the number of bytes of the block in hand that were absorbed or squeezed. A full block is permuted when its
 // next byte arrives or at the padding, and on squeezing when a byte past it is asked: a position equal to the rate is one.
 // `four` has the blocks of four sponges whose states stand in one slice.
+#![tactic(auto)]
+
 mod block;
 pub mod four;
 pub mod status;
@@ -14,7 +16,7 @@ ghost use Rattle.sponge.specs.Model.{absorb_bytes, squeeze_bytes, after_bytes, v
 ghost use Rattle.sponge.specs.Model as model;
 
 // What a call answers: its status and the position that it leaves.
-#[derive(Drop)]
+#[derive(Clone, Copy)]
 pub struct Answer {
     pub status: u8,
     pub position: usize,

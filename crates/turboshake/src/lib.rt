@@ -1,5 +1,7 @@
 // TurboSHAKE128 and TurboSHAKE256: draft-irtf-cfrg-kangarootwelve-16, section 2, in one go and in pieces: a type for each strength.
 // Their calls on lent lanes stand in `in_place`.
+#![tactic(auto)]
+
 mod in_place;
 
 ghost use Rattle.std.specs.Prelude.{◌≡◌, length};
@@ -33,13 +35,13 @@ pub fn domain_status(domain: u8) -> u8
 }
 
 // A run of TurboSHAKE128.
-#[derive(Drop)]
+#[derive(Clone, Copy)]
 pub struct TurboShake128 {
     pub run: Run,
 }
 
 // What a call answers: the status, and the run, which is the one given where the status is not 0.
-#[derive(Drop)]
+#[derive(Clone, Copy)]
 pub struct Answer128 {
     pub hasher: TurboShake128,
     pub status: u8,
@@ -111,13 +113,13 @@ impl TurboShake128 {
 }
 
 // A run of TurboSHAKE256.
-#[derive(Drop)]
+#[derive(Clone, Copy)]
 pub struct TurboShake256 {
     pub run: Run,
 }
 
 // What a call answers: the status, and the run, which is the one given where the status is not 0.
-#[derive(Drop)]
+#[derive(Clone, Copy)]
 pub struct Answer256 {
     pub hasher: TurboShake256,
     pub status: u8,

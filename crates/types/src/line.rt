@@ -5,7 +5,7 @@ use libc::STDOUT_FILENO;
 
 // The statuses of the calls on a run: a piece, a read before the close, the other piece, the close, a read, a piece after the close, and two
 // reads more, the last of one byte.
-#[derive(Drop)]
+#[derive(Clone, Copy)]
 pub struct Statuses {
     pub first: u8,
     pub early: u8,

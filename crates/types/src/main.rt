@@ -1,6 +1,8 @@
 // Runs each type's own calls: on a run of 32 or 64 bytes of output, of SHA-3 the digest, and one byte more, with a read before the close and a piece after it, which are refused, and in one go. Writes a line for each
 // function: a digit for the status of each call, the bytes of the run, the byte that follows them, the bytes of the call in one go, and those of one that asks for a byte more. Each buffer held A5 in every byte before.
 // Then a line for each function of the same run on lent lanes.
+#![tactic(auto)]
+
 mod by_value;
 mod in_place;
 mod line;

@@ -14,7 +14,7 @@ const LENGTHS: [usize; 8] = [0, 1, 3, 7, 8191, 8192, 8192, 8192];
 
 const CUSTOMIZATIONS: [usize; 8] = [1, 41, 1681, 68921, 0, 0, 8189, 8190];
 
-#[derive(Drop)]
+#[derive(Clone, Copy)]
 struct KtVector {
     function: KtFunction,
     is_ff: bool,

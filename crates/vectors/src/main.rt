@@ -2,6 +2,8 @@
 // for each: the function, the message's kind and length, the domain byte (KT: the customization string's length), the bytes
 // asked, and the bytes that the draft prints, or the status of the call that was refused. The last eight vectors of each KT function
 // have these bytes three times: by a finalize with the whole customization string, by pieces of it and a finish, and in one go.
+#![tactic(auto)]
+
 mod kt;
 
 ghost use Rattle.std.specs.Prelude.{◌≡◌, ◌≤◌, min, length};
@@ -26,7 +28,7 @@ const FF_LENGTHS: [usize; 6] = [3, 1, 3, 7, 1, 3];
 
 const FF_DOMAINS: [u8; 6] = [0x01, 0x06, 0x07, 0x0b, 0x30, 0x7f];
 
-#[derive(Drop)]
+#[derive(Clone, Copy)]
 struct Vector {
     function: Function,
     is_ff: bool,
