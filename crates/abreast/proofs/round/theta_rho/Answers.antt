@@ -4,7 +4,6 @@ use mathlib.Core.List.{List}
 use mathlib.Core.Path.{◌≡◌, sym, ap, ap₂, ◌∙◌}
 use Prim.Native.Nat.{ℕ, ◌+◌, ◌*◌, ◌%◌, ◌<◌}
 use native.Mathlib.Omega.{arith}
-use borrow.Author.Rules.{rules}
 use lib.Bits.{bit_xor}
 use lib.ListN.{get_or}
 use Rattle.keccak.specs.Round.{rotl, offsets}
@@ -12,13 +11,12 @@ use Rattle.keccak.proofs.Offsets.{offset_places}
 use Rattle.abreast.specs.Four.{state_at}
 use Rattle.abreast.specs.Planes.{turned}
 use Rattle.abreast.proofs.Four.{state_at_lem}
-use Rattle.abreast.proofs.round.theta_rho.Statement.{statement}
-use Rattle.abreast.proofs.round.theta_rho.Tie as tie
+use Rattle.abreast.proofs.round.theta_rho.Goals as goal
 
-returns : tie.Need-returns
+pub returns : goal.returns
 unfolding turned
 returns c =
-    let a = c.before.before.before.args in
+    let a = c.args in
     let s : List ℕ = a.a.now in
     let n : ℕ = (a.k + 2 * a.y) % 5 in
     let m : a.k % 5 ≡ a.k = omega arith in
@@ -28,11 +26,3 @@ returns c =
     let computed : c.rotate_left.result ≡ rotated (get_or s (4 * i + a.j) 0) (get_or offsets i 0 % 64) = c.rotate_left.ensures in
     computed ∙ ap₂ rotated (sym (state_at_lem a.j s i h)) (offset_places i h)
     ∙ ap (λ (k : ℕ). rotated (get_or (state_at a.j s) (k + 5 * n) 0) (get_or offsets (k + 5 * n) 0)) (sym m)
-
-pub theta-rho-spec : {M : Type 1} → statement M
-theta-rho-spec =
-    tie.close
-    (tie.spec
-    (λ c. search rules) (λ c. search rules) (λ c. search rules) (λ c. search rules) (λ c. search rules)
-    (λ c. search rules) (λ c. search rules) (λ c. search rules) (λ c. search rules) (λ c. search rules)
-    (λ c κs. search rules) returns)

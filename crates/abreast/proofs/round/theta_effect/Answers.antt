@@ -4,7 +4,6 @@ use mathlib.Core.Path.{◌≡◌, refl, sym, ap, ap₂, ◌∙◌}
 use mathlib.Core.List.{List}
 use Prim.Native.Nat.{ℕ, ◌+◌, ◌*◌, ◌/◌, ◌%◌, ◌^◌}
 use native.Mathlib.Nat.{zero-add}
-use borrow.Author.Rules.{rules}
 use lib.Bits.{bit_or, bit_xor}
 use lib.Dec.{lit<}
 use Rattle.keccak.specs.Round.{parity, rotl}
@@ -13,8 +12,7 @@ use Rattle.abreast.specs.declared.round.Plane.{Plane}
 use Rattle.abreast.specs.Four.{state_at}
 use Rattle.abreast.specs.Planes.{effect}
 use Rattle.abreast.proofs.Four.{column, state-parity}
-use Rattle.abreast.proofs.round.theta_effect.Statement.{statement}
-use Rattle.abreast.proofs.round.theta_effect.Tie as tie
+use Rattle.abreast.proofs.round.theta_effect.Goals as goal
 
 -- a word of D from two parities, as the code writes it
 abbrev joined : ℕ → ℕ → ℕ
@@ -47,25 +45,5 @@ effect_words j s =
     (state-parity j s 0 j (sym (zero-add j))) (state-parity j s 1 (4 + j) refl) (state-parity j s 2 (8 + j) refl)
     (state-parity j s 3 (12 + j) refl) (state-parity j s 4 (16 + j) refl)
 
-returns : tie.Need-returns
+pub returns : goal.returns
 returns c = effect_words _ _
-
-pub theta-effect-spec : {M : Type 1} → statement M
-theta-effect-spec =
-    tie.close
-    (tie.spec
-    (λ c. search rules) (λ c. search rules) (λ c. search rules) (λ c. search rules) (λ c. search rules)
-    (λ c. search rules) (λ c. search rules) (λ c. search rules) (λ c. search rules) (λ c. search rules)
-    (λ c. search rules) (λ c. search rules) (λ c. search rules) (λ c. search rules) (λ c. search rules)
-    (λ c. search rules) (λ c. search rules) (λ c. search rules) (λ c. search rules) (λ c. search rules)
-    (λ c. search rules) (λ c. search rules) (λ c. search rules) (λ c. search rules) (λ c. search rules)
-    (λ c. search rules) (λ c. search rules) (λ c. search rules) (λ c. search rules) (λ c. search rules)
-    (λ c. search rules) (λ c. search rules) (λ c. search rules) (λ c. search rules) (λ c. search rules)
-    (λ c. search rules) (λ c. search rules) (λ c. search rules) (λ c. search rules) (λ c. search rules)
-    (λ c. search rules) (λ c. search rules) (λ c. search rules) (λ c. search rules) (λ c. search rules)
-    (λ c. search rules) (λ c. search rules) (λ c. search rules) (λ c. search rules) (λ c. search rules)
-    (λ c. search rules) (λ c. search rules) (λ c. search rules) (λ c. search rules) (λ c. search rules)
-    (λ c. search rules) (λ c. search rules) (λ c. search rules) (λ c. search rules) (λ c. search rules)
-    (λ c. search rules) (λ c. search rules) (λ c. search rules) (λ c. search rules) (λ c. search rules)
-    (λ c. search rules) (λ c. search rules) (λ c. search rules) (λ c. search rules) (λ c. search rules)
-    (λ c. search rules) (λ c. search rules) (λ c. search rules) (λ c. search rules) returns)

@@ -4,13 +4,9 @@ use mathlib.Core.Path.{sym, ap}
 use Prim.Native.Nat.{ℕ}
 use lib.Bits.{bit_and, bit_xor}
 use Rattle.keccak.proofs.Steps.{complement_is}
-use Rattle.abreast.proofs.round.chi.Statement.{statement}
-use Rattle.abreast.proofs.round.chi.Tie as tie
+use Rattle.abreast.proofs.round.chi.Goals as goal
 
-returns : tie.Need-returns
+pub returns : goal.returns
 returns c =
     let a = c.args in
     ap (λ (n : ℕ). bit_xor a.x (bit_and n a.z)) (sym (complement_is a.y))
-
-pub chi-spec : {M : Type 1} → statement M
-chi-spec = tie.close (tie.spec returns)
