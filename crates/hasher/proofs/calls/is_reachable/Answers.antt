@@ -4,14 +4,12 @@ use Prim.Native.Nat.{ℕ, zero, suc, ◌+◌, ◌/◌, ◌≤◌, ◌<◌}
 use native.Mathlib.Nat.{zero-add}
 use native.Mathlib.Omega.{arith}
 use lib.Dec.{eqb}
-use borrow.Author.Rules.{rules}
 use borrow.Author.Tests.{le-leb, lt-leb, eq-eqb, ne_eqb}
 use Rattle.sponge.specs.Waiting.{position_after}
 use Rattle.sponge.specs.Count.{open_count, closed_count}
 use Rattle.hasher.specs.Function.{message_limit}
 use Rattle.hasher.specs.Model.{reachable}
-use Rattle.hasher.proofs.calls.is_reachable.Statement.{statement}
-use Rattle.hasher.proofs.calls.is_reachable.Tie as tie
+use Rattle.hasher.proofs.calls.is_reachable.Goals as goal
 
 -- each test's answer, by the phase
 module _ (rate limit position absorbed squeezed permutations : ℕ) where
@@ -53,66 +51,43 @@ module _ (rate limit position absorbed squeezed permutations : ℕ) where
         simp (le-leb absorbed message_limit a, le-leb squeezed limit (omega arith), eq-eqb position (position_after rate squeezed) (o ∙ g ∙ ap (position_after rate) f), w)
     by_count (suc (suc phase)) most n p k j h e l f g o u v = absurd (omega arith)
 
-returns : tie.Need-returns
+pub returns-then-at-gt-MESSAGE_LIMIT : goal.returns-then-at-gt-MESSAGE_LIMIT
+returns-then-at-gt-MESSAGE_LIMIT c =
+    let at = c.args.at in
+    too_long c.args.rate c.args.limit at.position at.absorbed at.squeezed at.permutations at.phase (omega (arith, c.if-at-gt-MESSAGE_LIMIT.true))
+
+pub returns-then-at-gt-SQUEEZING : goal.returns-then-at-gt-SQUEEZING
+returns-then-at-gt-SQUEEZING c =
+    let at = c.args.at in
+    no_phase c.args.rate c.args.limit at.position at.absorbed at.squeezed at.permutations (omega (arith, c.if-at-gt-MESSAGE_LIMIT.false)) at.phase (omega (arith, c.if-at-gt-SQUEEZING.true))
+
+pub returns-then-most_squeezed-at : goal.returns-then-most_squeezed-at
+returns-then-most_squeezed-at c =
+    let most = c.most_squeezed in
+    let at = c.args.at in
+    too_much c.args.rate c.args.limit at.position at.absorbed at.squeezed at.permutations (omega (arith, c.if-at-gt-MESSAGE_LIMIT.false)) at.phase most.result (omega (arith, c.if-at-gt-SQUEEZING.false)) most.ensures.0 (omega (arith, c.if-most_squeezed-at.true))
+
+pub returns-then-at-position_after : goal.returns-then-at-position_after
+returns-then-at-position_after c =
+    let place = c.position_after in
+    let total = c.total_in_hand-n in
+    let most = c.most_squeezed in
+    let at = c.args.at in
+    elsewhere c.args.rate c.args.limit at.position at.absorbed at.squeezed at.permutations (omega (arith, c.if-at-gt-MESSAGE_LIMIT.false)) at.phase most.result total.result place.result (omega (arith, c.if-at-gt-SQUEEZING.false)) most.ensures.0 (omega (arith, c.if-most_squeezed-at.false)) total.ensures.0 place.ensures c.if-at-position_after.true
+
+pub overflow_add-result : goal.overflow_add-result
+overflow_add-result c =
+    let k = c.count_at_close in
+    let total = c.total_in_hand-n in
+    let most = c.most_squeezed in
+    omega (arith, c.open_count.ensures.1, k.ensures.1, total.ensures.1, most.ensures.1, c.if-most_squeezed-at.false, c.if-at-gt-MESSAGE_LIMIT.false)
+
+pub returns : goal.returns
 returns c =
-    let s = c.before.before in
-    let at = s.args.at in
-    too_long s.args.rate s.args.limit at.position at.absorbed at.squeezed at.permutations at.phase (omega (arith, c.if1.true))
-
-returns-2 : tie.Need-returns-2
-returns-2 c =
-    let t = c.before.before in
-    let s = t.before.before in
-    let at = s.args.at in
-    no_phase s.args.rate s.args.limit at.position at.absorbed at.squeezed at.permutations (omega (arith, t.if1.false)) at.phase (omega (arith, c.if2.true))
-
-returns-3 : tie.Need-returns-3
-returns-3 c =
-    let most = c.before.before.most-squeezed in
-    let u = c.before.before.before in
-    let t = u.before.before in
-    let s = t.before.before in
-    let at = s.args.at in
-    too_much s.args.rate s.args.limit at.position at.absorbed at.squeezed at.permutations (omega (arith, t.if1.false)) at.phase most.result (omega (arith, u.if2.false)) most.ensures.0 (omega (arith, c.if3.true))
-
-returns-4 : tie.Need-returns-4
-returns-4 c =
-    let place = c.before.before.position-after in
-    let total = c.before.before.before.total-in-hand in
-    let v = c.before.before.before.before in
-    let most = v.before.before.most-squeezed in
-    let u = v.before.before.before in
-    let t = u.before.before in
-    let s = t.before.before in
-    let at = s.args.at in
-    elsewhere s.args.rate s.args.limit at.position at.absorbed at.squeezed at.permutations (omega (arith, t.if1.false)) at.phase most.result total.result place.result (omega (arith, u.if2.false)) most.ensures.0 (omega (arith, v.if3.false)) total.ensures.0 place.ensures c.if4.true
-
-add-result : tie.Need-overflow-add-result
-add-result c =
-    let k = c.before.count-at-close in
-    let total = c.before.before.before.before.before.total-in-hand in
-    let v = c.before.before.before.before.before.before in
-    let most = v.before.before.most-squeezed in
-    let t = v.before.before.before.before.before in
-    omega (arith, c.open_count_lem.ensures.1, k.ensures.1, total.ensures.1, most.ensures.1, v.if3.false, t.if1.false)
-
-returns-5 : tie.Need-returns-5
-returns-5 c =
-    let j = c.before.open_count_lem in
-    let k = c.before.before.count-at-close in
-    let w = c.before.before.before in
-    let place = w.before.before.position-after in
-    let total = w.before.before.before.total-in-hand in
-    let v = w.before.before.before.before in
-    let most = v.before.before.most-squeezed in
-    let u = v.before.before.before in
-    let t = u.before.before in
-    let s = t.before.before in
-    let at = s.args.at in
-    by_count s.args.rate s.args.limit at.position at.absorbed at.squeezed at.permutations (omega (arith, t.if1.false)) at.phase most.result total.result place.result k.result j.result (omega (arith, u.if2.false)) most.ensures.0 (omega (arith, v.if3.false)) total.ensures.0 place.ensures w.if4.false k.ensures.0 j.ensures.0
-
-pub is-reachable-spec : {M : Type 1} → statement M
-is-reachable-spec =
-    tie.close
-    (tie.spec returns returns-2 (λ c κs. search rules) returns-3 (λ c κs. search rules) (λ c κs. search rules) returns-4
-    (λ c κs. search rules) (λ c κs. search rules) add-result returns-5)
+    let j = c.open_count in
+    let k = c.count_at_close in
+    let place = c.position_after in
+    let total = c.total_in_hand-n in
+    let most = c.most_squeezed in
+    let at = c.args.at in
+    by_count c.args.rate c.args.limit at.position at.absorbed at.squeezed at.permutations (omega (arith, c.if-at-gt-MESSAGE_LIMIT.false)) at.phase most.result total.result place.result k.result j.result (omega (arith, c.if-at-gt-SQUEEZING.false)) most.ensures.0 (omega (arith, c.if-most_squeezed-at.false)) total.ensures.0 place.ensures c.if-at-position_after.false k.ensures.0 j.ensures.0

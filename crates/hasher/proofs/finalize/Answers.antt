@@ -1,0 +1,12 @@
+use mathlib.Core.Path.{ap, ◌∙◌}
+use Rattle.sponge.specs.Transcript.{Call.finalize}
+use Rattle.hasher.specs.Model.{numbers, run_with, answer_of}
+use Rattle.hasher.specs.declared.Progress.{Progress}
+use Rattle.hasher.proofs.finalize.Goals as goal
+
+-- the call on a copy of the lanes
+pub returns : goal.returns
+returns c =
+    let a = c.args in
+    let n = c.finalize-moved in
+    c.answer_with.ensures ∙ n.ensures ∙ ap (λ (t : Progress). answer_of (numbers a.rate a.rounds a.limit) (run_with a.run.lanes t) (finalize (record { byte = a.last; status = a.refusal }))) c.progress_of.ensures
