@@ -1,0 +1,4 @@
+use Rattle.sp800_185.proofs.CShake256.finalize.Goals as goal
+
+pub returns : goal.returns
+returns c = c.finalize-answered.ensures
