@@ -11,7 +11,7 @@ use mir.Val.{Val, Fits}
 use denote.Shadow.{shadow}
 use denote.Plain.{UInt}
 use denote.Array.{in_array}
-use borrow.Author.Rules.{rules, elem_fits_field}
+use borrow.Author.Rules.{rules, elem_Fits}
 use borrow.Fn.Kinds.{GoodK}
 use borrow.Kind.Array.{p_arr, e_int, e_int_laws}
 use lib.Bits.{bit_xor, bit_and, xor_lt, and_lt}
@@ -33,8 +33,8 @@ array_state a good =
     record { lanes = good.1.0.1; words = λ i. (word i).fits }
 
 -- and so are 25 words in a field of a struct
-pub field_state : (a : List ℕ) (vs : List Val) → shadow (in_array ℕ (UInt w64).own_val 25 (map (λ (v : ℕ). v) a) vs) → State a
-field_state a vs good = record { lanes = sym (length-map a (λ v. v)) ∙ good.1.0.1; words = λ i. (elem_fits_field w64 w64 a good.0 i good.1.1 tt).fits }
+pub field_state : (a : List ℕ) (vs : List Val) → shadow (in_array ℕ (UInt w64).own_val 25 a vs) → State a
+field_state a vs good = record { lanes = good.1.0.1; words = λ i. (elem_Fits w64 w64 a good.0 i good.1.1 tt).fits }
 
 -- ---- 25 lanes stay 25, whatever they hold
 
