@@ -1,0 +1,11 @@
+use Prim.Native.Nat.{◌-◌}
+use lib.ListN.{length}
+use Rattle.bench.proofs.Pieces.{Absorbed}
+use Rattle.bench.proofs.Hashers.{shake_hasher}
+use Rattle.bench.proofs.fips.bench_shake_pieces.Given as goal
+
+abbrev pub invariant-loop-i : goal.invariant-loop-i
+invariant-loop-i l = Absorbed shake_hasher l.message l.hasher.run l.i
+
+abbrev pub decreases-loop-i : goal.decreases-loop-i
+decreases-loop-i l = length l.message - l.i
