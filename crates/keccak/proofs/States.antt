@@ -1,8 +1,8 @@
 -- What a caller of `permute` knows of its result: 25 lanes, each a word of 64 bits; and that each step, the round and the rounds take states to states.
 -- Assumes nothing.
-use mathlib.Core.Path.{◌≡◌, sym, ◌∙◌}
+use mathlib.Core.Path.{◌≡◌, ◌∙◌}
 use mathlib.Core.Bool.{Bool, true, false, cond}
-use mathlib.Core.List.{List, [], ◌∷◌, map}
+use mathlib.Core.List.{List, [], ◌∷◌}
 use Prim.Native.Nat.{ℕ, zero, suc, ◌+◌, ◌-◌, ◌*◌, ◌%◌, ◌^◌, ◌<◌, suc-le-suc}
 use native.Mathlib.Nat.{zero-lt-suc}
 use native.Mathlib.Omega.{arith}
@@ -16,7 +16,7 @@ use borrow.Fn.Kinds.{GoodK}
 use borrow.Kind.Array.{p_arr, e_int, e_int_laws}
 use lib.Bits.{bit_xor, bit_and, xor_lt, and_lt}
 use lib.Dec.{leb}
-use lib.ListN.{length, get_or, set, drop, length-set, length-drop, length-map}
+use lib.ListN.{length, get_or, set, drop, length-set, length-drop}
 use lib.Seq.{get_or-drop}
 use Rattle.keccak.specs.State.{State, lane}
 use Rattle.keccak.specs.Round.{complement, parity, theta, rho, pi, chi, iota, round}

@@ -13,7 +13,6 @@ use borrow.Author.Tests.{eq-eqb, ne_eqb, eqb-true, le-leb, leb-true}
 use Rattle.keccak.specs.Permutation.{last_rounds}
 use Rattle.sponge.specs.Published.{xor_byte}
 use Rattle.sponge.specs.Waiting.{steps, position_after}
-use Rattle.sponge.specs.Model.{fresh}
 use Rattle.sponge.specs.Count.{counted, uncounted, Counted, open_count, closed_count}
 use Rattle.sponge.specs.Transcript.{Call, Call.absorb, Call.customize, Call.finalize, Call.finish, Call.squeeze, Phase, Phase.absorbing, Phase.customizing, Phase.squeezing, status_of}
 use Rattle.sponge.specs.Runs.{Run, worked, run_of}

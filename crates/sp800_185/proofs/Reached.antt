@@ -34,8 +34,8 @@ use Rattle.sp800_185.specs.declared.Keyed.{Keyed}
 use Rattle.sp800_185.proofs.Told.{absorb-told, pad-told, after-told}
 use Rattle.sp800_185.proofs.Lengths.{kept_at, kept_few, Meets, some_taken}
 use Rattle.sp800_185.proofs.Laws.{positions, first_is, second_is, third_is, due, Limited, shape, shaped}
-use Rattle.sp800_185.proofs.Ranges.{laws, joined-counted, some}
-use Rattle.sp800_185.proofs.Claims.{ran-held, left_is, calls}
+use Rattle.sp800_185.proofs.Ranges.{laws, joined-counted}
+use Rattle.sp800_185.proofs.Claims.{ran-held, left_is}
 
 -- no argument of a close answers 5
 argument_other : (f : Bool) (l : ℕ) → cond f (length_status l) done ≡ unreachable → ⊥

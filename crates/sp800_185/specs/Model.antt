@@ -6,7 +6,7 @@ use Rattle.sponge.specs.Waiting.{steps, position_after}
 use Rattle.sponge.specs.Published.{xor_byte}
 use Rattle.sponge.specs.Model.{Sponge, absorb_bytes, pad, pad_with, squeeze_bytes, after_bytes}
 use Rattle.sponge.specs.Count.{counted, uncounted, Counted, sponge_of, open_count, closed_count}
-use Rattle.sponge.specs.Transcript.{Call, Call.absorb, Call.customize, Call.finalize, Call.finish, Call.squeeze, Reply, lent}
+use Rattle.sponge.specs.Transcript.{Call, Call.squeeze, Reply, lent}
 use Rattle.sponge.specs.Runs as runs
 use Rattle.sponge.specs.Runs.{Machine, perform}
 use Rattle.hasher.specs.Function.{message_limit}

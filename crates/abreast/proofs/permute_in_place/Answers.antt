@@ -5,7 +5,7 @@ use mathlib.Core.Logic.{◌≢◌}
 use Prim.Native.Nat.{◌<◌}
 use native.Mathlib.Omega.{arith}
 use lib.ListN.{length}
-use Rattle.keccak.specs.Permutation.{rounds, round_constants}
+use Rattle.keccak.specs.Permutation.{round_constants}
 use Rattle.keccak.proofs.Rounds.{one_more, none_left, last_rounds_lem}
 use Rattle.abreast.specs.Four.{state_at}
 use Rattle.abreast.proofs.Four.{permuted-each, permuted-other_length, permuted-none, status_12, status_16, status_0}

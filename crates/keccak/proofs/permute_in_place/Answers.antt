@@ -2,7 +2,7 @@
 -- Assumes nothing.
 use Prim.Native.Nat.{◌≤◌, ◌<◌}
 use native.Mathlib.Omega.{arith}
-use Rattle.keccak.specs.Permutation.{rounds, round_constants}
+use Rattle.keccak.specs.Permutation.{round_constants}
 use Rattle.keccak.proofs.Rounds.{one_more, none_left, all_taken, too_many, last_rounds_lem, last_none}
 use Rattle.keccak.proofs.permute_in_place.Goals as goal
 

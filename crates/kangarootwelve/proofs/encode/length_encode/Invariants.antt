@@ -3,7 +3,6 @@ use mathlib.Core.List.{◌++◌}
 use Prim.Native.Nat.{◌-◌, ◌^◌, ◌≤◌, ◌<◌}
 use lib.ListN.{length, take, drop}
 use Rattle.sponge.specs.Digits.{digits}
-use Rattle.kangarootwelve.proofs.Encoding.{encoded}
 use Rattle.kangarootwelve.proofs.encode.length_encode.Given as goal
 
 abbrev pub invariant-loop-rest : goal.invariant-loop-rest

@@ -1,7 +1,6 @@
 use mathlib.Core.Path.{sym, ◌∙◌}
 use native.Mathlib.Omega.{arith}
 use Rattle.abreast.proofs.Four.{upto_none, upto_one, upto_all}
-use Rattle.sponge.specs.Published.{xor_byte}
 use Rattle.kangarootwelve.proofs.leaves.xor_bytes.Goals as goal
 
 pub loop-j-init : goal.loop-j-init
