@@ -123,7 +123,7 @@ fn write_line(heading: &[u8], status: u8, digest: &[u8]) -> bool {
             && io::write_all(STDOUT_FILENO, b"\n");
     }
     let mut line = [b'\n'; 65];
-    hex::put(&mut line, 0, digest)
+    hexadecimal::put(&mut line, 0, digest)
         && io::write_all(STDOUT_FILENO, heading)
         && io::write_all(STDOUT_FILENO, &line)
 }

@@ -1,7 +1,7 @@
 -- What the calls on a run of KT128 come to, whatever is read.
 -- Assumes nothing.
 use Rattle.std.specs.Prelude.{◌≡◌, List, [], ◌++◌, Bool, true, ◌⊎◌, ℕ, ◌≤◌, length, drop}
-use Rattle.hex.specs.Hex.{hex_of}
+use Rattle.hexadecimal.specs.Hex.{hex_of}
 use Rattle.sponge.specs.Status.{done, input_too_long}
 use Rattle.sponge.specs.Transcript.{Call.absorb}
 use Rattle.turboshake.specs.Transcript.{message_limit}

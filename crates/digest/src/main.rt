@@ -92,7 +92,7 @@ fn put_digest(hasher: Kt128, line: &mut [u8]) -> bool
     if finish(hasher, &mut out) != DONE {
         return false;
     }
-    hex::put(line, 0, &out)
+    hexadecimal::put(line, 0, &out)
 }
 
 // The line is one write, so that a disk which fills cannot cut it between two; its last byte stays the line end.

@@ -31,7 +31,7 @@ fn write_bytes(bytes: &[u8]) -> bool
 {
     let mut text = [0u8; 674];
     let end = 2 * bytes.len();
-    hex::put(&mut text, 0, bytes) && io::write_all(STDOUT_FILENO, &text[0..end])
+    hexadecimal::put(&mut text, 0, bytes) && io::write_all(STDOUT_FILENO, &text[0..end])
 }
 
 // Writes the status and the bytes, and a space before each.

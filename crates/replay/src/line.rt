@@ -18,7 +18,7 @@ fn put_digits(text: &mut [u8], at: usize, bytes: &[u8]) -> bool
     requires { at + 2 * length bytes.now ≤ length text.old }
     ensures { result ≡ true }
 {
-    hex::put(text, at, bytes)
+    hexadecimal::put(text, at, bytes)
 }
 
 // Puts number k of a run's line.

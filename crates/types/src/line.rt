@@ -43,7 +43,7 @@ fn write_part(bytes: &[u8], then: &[u8]) -> bool
 {
     let mut text = [0u8; 130];
     let end = 2 * bytes.len();
-    hex::put(&mut text, 0, bytes)
+    hexadecimal::put(&mut text, 0, bytes)
         && io::write_all(STDOUT_FILENO, &text[0..end])
         && io::write_all(STDOUT_FILENO, then)
 }

@@ -133,7 +133,7 @@ fn write_asked(vector: Vector) -> bool {
 // Writes the digits of at most 128 bytes: the draft prints no more of an output.
 fn write_bytes(bytes: &[u8]) -> bool {
     let mut text = [0u8; 256];
-    if !hex::put(&mut text, 0, bytes) {
+    if !hexadecimal::put(&mut text, 0, bytes) {
         return false;
     }
     let end = 2 * bytes.len();

@@ -1,4 +1,4 @@
--- `hex::put` meets its contract. The loop's invariant: the digits that are left, stored, give what all of them give, stored into the
+-- `hexadecimal::put` meets its contract. The loop's invariant: the digits that are left, stored, give what all of them give, stored into the
 -- text of the beginning. The measure is the number of bytes not yet put.
 -- Assumes nothing.
 use mathlib.Core.Path.{◌≡◌, refl, sym, ap, ◌∙◌}
@@ -9,10 +9,10 @@ use native.Mathlib.Omega.{arith}
 use lib.ListN.{length}
 use borrow.Author.Rules.{rules}
 use borrow.Author.Tests.{leb-true, leb-false, le-leb, not-true, not-false}
-use Rattle.hex.specs.Hex.{fits}
-use Rattle.hex.proofs.Stores.{rest, turn, put-end, put_all, put-none}
-use Rattle.hex.proofs.put.Statement.{statement}
-use Rattle.hex.proofs.put.Tie as tie
+use Rattle.hexadecimal.specs.Hex.{fits}
+use Rattle.hexadecimal.proofs.Stores.{rest, turn, put-end, put_all, put-none}
+use Rattle.hexadecimal.proofs.put.Statement.{statement}
+use Rattle.hexadecimal.proofs.put.Tie as tie
 
 abbrev invariant-loop : tie.invariant-loop
 invariant-loop text₀ at bytes i₀ text i =

@@ -1,9 +1,9 @@
--- `hex::digit` meets its contract: `0` to `9`, then `a` to `f`.
+-- `hexadecimal::digit` meets its contract: `0` to `9`, then `a` to `f`.
 -- Assumes nothing.
 use borrow.Author.Rules.{rules}
 use borrow.Author.Tests.{lt-ltb, le-ltb}
-use Rattle.hex.proofs.digit.Statement.{statement}
-use Rattle.hex.proofs.digit.Tie as tie
+use Rattle.hexadecimal.proofs.digit.Statement.{statement}
+use Rattle.hexadecimal.proofs.digit.Tie as tie
 
 add-result : tie.Need-overflow-add-result
 add-result c = search rules

@@ -1,12 +1,12 @@
--- `hex::has_room` meets its contract: half of the room is compared, not twice the bytes.
+-- `hexadecimal::has_room` meets its contract: half of the room is compared, not twice the bytes.
 -- Assumes nothing.
 use mathlib.Core.Path.{sym}
 use Prim.Native.Nat.{◌+◌, ◌*◌}
 use native.Mathlib.Omega.{arith}
 use borrow.Author.Tests.{lt-leb}
-use Rattle.hex.proofs.Stores.{room}
-use Rattle.hex.proofs.has_room.Statement.{statement}
-use Rattle.hex.proofs.has_room.Tie as tie
+use Rattle.hexadecimal.proofs.Stores.{room}
+use Rattle.hexadecimal.proofs.has_room.Statement.{statement}
+use Rattle.hexadecimal.proofs.has_room.Tie as tie
 
 returns : tie.Need-returns
 returns c = let a = c.before.args in sym (lt-leb (a.at + 2 * a.n) a.size (omega arith))

@@ -1,8 +1,8 @@
--- `hex::put_byte` meets its contract: two stores.
+-- `hexadecimal::put_byte` meets its contract: two stores.
 -- Assumes nothing.
 use borrow.Author.Rules.{rules}
-use Rattle.hex.proofs.put_byte.Statement.{statement}
-use Rattle.hex.proofs.put_byte.Tie as tie
+use Rattle.hexadecimal.proofs.put_byte.Statement.{statement}
+use Rattle.hexadecimal.proofs.put_byte.Tie as tie
 
 digit-requires : tie.Need-digit-requires
 digit-requires c κs = search rules
