@@ -12,8 +12,9 @@ ghost use Rattle.journal.specs.Published.{framed, digest};
 
 use journal::Journal;
 use kangarootwelve::Kt128;
-use libc::STDOUT_FILENO;
 use sponge::status::DONE;
+use std::io;
+use std::io::ErrorKind;
 
 // Fills the sensor's dump: byte i is i modulo 251.
 fn fill(dump: &mut [u8]) {
@@ -116,19 +117,19 @@ fn clerk(
 }
 
 // Writes the digest after its heading, or the status where that is not 0.
-fn write_line(heading: &[u8], status: u8, digest: &[u8]) -> bool {
+fn write_line(rt: &impl Print, heading: &str, status: u8, digest: &[u8]) -> io::Result<()> {
     if status != DONE {
-        return io::write_all(STDOUT_FILENO, b"refused ")
-            && io::print_decimal(STDOUT_FILENO, status as u64)
-            && io::write_all(STDOUT_FILENO, b"\n");
+        return println!(rt; "refused {status}");
     }
     let mut line = [b'\n'; 65];
-    hex::put(&mut line, 0, digest)
-        && io::write_all(STDOUT_FILENO, heading)
-        && io::write_all(STDOUT_FILENO, &line)
+    if !hexadecimal::put(&mut line, 0, digest) {
+        return Err(io::Error::from(ErrorKind::Other));
+    }
+    print!(rt; "{heading}")?;
+    rt.write_all(&line)
 }
 
-fn main() {
+fn main(rt: HostRuntime) -> io::Result<()> {
     let name = b"Hanbeorit station 3";
     let on = b"06:00 pump 3 on\n";
     let level = b"06:02 level 3 at 41 cm\n";
@@ -154,7 +155,6 @@ fn main() {
         &mut clerk_digest,
     );
 
-    if write_line(b"shift ", shift_status, &shift_digest) {
-        write_line(b"clerk ", clerk_status, &clerk_digest);
-    }
+    write_line(&rt, "shift ", shift_status, &shift_digest)?;
+    write_line(&rt, "clerk ", clerk_status, &clerk_digest)
 }

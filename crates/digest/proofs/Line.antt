@@ -1,5 +1,5 @@
 -- The digits at the line's beginning are those of the message that left the run; s and o are what `finish` answers and writes, b and text
--- what `hex::put` does.
+-- what `hexadecimal::put` does.
 -- Assumes nothing.
 use mathlib.Core.Path.{◌≡◌, ap, ◌∙◌}
 use mathlib.Core.List.{List, ◌++◌}
@@ -7,8 +7,8 @@ use mathlib.Core.Bool.{Bool}
 use Prim.Native.Nat.{ℕ, ◌+◌, ◌*◌, ◌≤◌}
 use native.Mathlib.Omega.{arith}
 use lib.ListN.{length, take, drop}
-use Rattle.hex.specs.Hex.{hex_of, fits, with_hex}
-use Rattle.hex.proofs.Digits.{fits_room, hex_room}
+use Rattle.hexadecimal.specs.Hex.{hex_of, fits, with_hex}
+use Rattle.hexadecimal.proofs.Digits.{fits_room, hex_room}
 use Rattle.kangarootwelve.specs.declared.Run.{Run}
 use Rattle.digest.specs.Digest.{Digests, Written}
 

@@ -1,7 +1,8 @@
 -- What the calls on a run of KT128 come to, whatever is read.
 -- Assumes nothing.
-use Rattle.std.specs.Prelude.{◌≡◌, List, [], ◌++◌, Bool, true, ◌⊎◌, ℕ, ◌≤◌, length, drop}
-use Rattle.hex.specs.Hex.{hex_of}
+use Rattle.std.specs.Prelude.{◌≡◌, List, [], ◌++◌, Bool, true, ◌⊎◌, ℕ, ◌≤◌, min, length, drop, Result, Ok, Err}
+use Rattle.std.specs.declared.io.Error.{Error}
+use Rattle.hexadecimal.specs.Hex.{hex_of}
 use Rattle.sponge.specs.Status.{done, input_too_long}
 use Rattle.sponge.specs.Transcript.{Call.absorb}
 use Rattle.turboshake.specs.Transcript.{message_limit}
@@ -9,6 +10,11 @@ use Rattle.kangarootwelve.specs.Published.{kt128}
 use Rattle.kangarootwelve.specs.Model.{fresh_of, answer_of}
 use Rattle.kangarootwelve.specs.declared.Run.{Run}
 use Rattle.kangarootwelve.specs.declared.Answer128.{Answer128}
+
+-- how many bytes of a buffer of `most` a read has brought: none where it failed
+abbrev pub read_len : Result ℕ Error → ℕ → ℕ
+read_len (Ok n) most = min n most
+read_len (Err e) most = 0
 
 -- r is the run that the message m leaves, absorbed at once
 pub record Left (r : Run) (m : List ℕ) : Type 0 where

@@ -3,22 +3,26 @@
 // With an argument it reads nothing and writes a usage line, on standard error alone.
 #![tactic(auto)]
 
-ghost use Rattle.std.specs.Prelude.{◌≡◌, ◌≤◌, length, take};
-ghost use Rattle.io.specs.Counts.{clamp_len};
+mod reason;
+
+ghost use Rattle.std.specs.Prelude.{◌≡◌, ◌≤◌, min, length, take};
 ghost use Rattle.sponge.specs.Transcript.{Call};
 ghost use Rattle.turboshake.specs.Transcript.{output_limit};
 ghost use Rattle.kangarootwelve.specs.Model.{answer128};
-ghost use Rattle.digest.specs.Digest.{Absorbs, Digests, Written};
+ghost use Rattle.digest.specs.Digest.{read_len, Absorbs, Digests, Written};
 
 use kangarootwelve::{Answer128, Kt128};
-use libc::{STDERR_FILENO, STDIN_FILENO, STDOUT_FILENO};
 use sponge::status::{DONE, INPUT_TOO_LONG};
+use std::env::FillError;
+use std::io;
+use std::io::{ErrorKind, Read};
+use std::rt::Env;
 
-// What the last absorb answered, and the last read: the number of bytes, 0 at the input's end, or a negative number.
+// What the last absorb answered, and the last read: the number of bytes, 0 at the input's end, or why it failed.
 #[derive(Clone, Copy)]
 struct Absorbed {
     answer: Answer128,
-    got: isize,
+    got: io::Result<usize>,
 }
 
 // Nothing is absorbed yet; 1 stands for an input that goes on.
@@ -30,42 +34,62 @@ fn begin() -> Absorbed
         hasher,
         status: DONE,
     };
-    Absorbed { answer, got: 1 }
+    Absorbed { answer, got: Ok(1) }
 }
 
-// Absorbs the bytes that a read put at the buffer's start: none where it came to the end or failed.
-fn absorb_read(hasher: Kt128, buffer: &[u8], got: isize) -> Answer128
-    ensures { result ≡ answer128 hasher (Call.absorb (take (clamp_len got (length buffer.now)) buffer.now)) }
+fn least(x: usize, y: usize) -> usize
+    ensures { result ≡ min x y }
 {
-    let n = io::count(got, buffer);
+    if x < y { x } else { y }
+}
+
+// The number of bytes that a read put at the buffer's start: none where it came to the end or failed.
+fn count(got: io::Result<usize>, buffer: &[u8]) -> usize
+    ensures in_bounds { result ≤ length buffer.now }
+    ensures value { result ≡ read_len got (length buffer.now) }
+{
+    match got {
+        Ok(n) => least(n, buffer.len()),
+        Err(_) => 0,
+    }
+}
+
+// Absorbs the bytes that a read put at the buffer's start.
+fn absorb_read(hasher: Kt128, buffer: &[u8], got: io::Result<usize>) -> Answer128
+    ensures { result ≡ answer128 hasher (Call.absorb (take (read_len got (length buffer.now)) buffer.now)) }
+{
+    let n = count(got, buffer);
     hasher.absorb(&buffer[..n])
 }
 
 // Reads once, and absorbs what came.
-fn absorb_some(absorbed: Absorbed, buffer: &mut [u8]) -> Absorbed
+fn absorb_some(absorbed: Absorbed, input: &mut impl Read, buffer: &mut [u8]) -> Absorbed
     requires { Absorbs absorbed.answer }
     ensures { Absorbs result.answer }
 {
     let last = absorbed.answer;
     let hasher = last.hasher;
-    let got = libc::read(STDIN_FILENO, buffer);
+    let got = input.read(buffer);
     let answer = absorb_read(hasher, buffer, got);
     Absorbed { answer, got }
 }
 
 // Whether to read again after a read that answered this. A read that a signal interrupted is asked again.
-fn is_open(got: isize) -> bool {
-    0 < got || got < 0 && os::errno() == libc::EINTR
+fn is_open(got: io::Result<usize>) -> bool {
+    match got {
+        Ok(n) => 0 < n,
+        Err(error) => error.kind() == ErrorKind::Interrupted,
+    }
 }
 
 // A proved loop has to end, and nothing says that the input does: the turns are counted down from a number that no run uses up.
-fn absorb_input(buffer: &mut [u8]) -> Absorbed
+fn absorb_input(input: &mut impl Read, buffer: &mut [u8]) -> Absorbed
     ensures { Absorbs result.answer }
 {
     let mut absorbed = begin();
     let mut turns = u64::MAX;
     while 0 < turns && is_open(absorbed.got) && absorbed.answer.status == DONE {
-        absorbed = absorb_some(absorbed, buffer);
+        absorbed = absorb_some(absorbed, input, buffer);
         turns -= 1;
     }
     absorbed
@@ -92,49 +116,63 @@ fn put_digest(hasher: Kt128, line: &mut [u8]) -> bool
     if finish(hasher, &mut out) != DONE {
         return false;
     }
-    hex::put(line, 0, &out)
+    hexadecimal::put(line, 0, &out)
 }
 
 // The line is one write, so that a disk which fills cannot cut it between two; its last byte stays the line end.
-fn write_digest(hasher: Kt128) -> bool {
+fn write_digest(rt: &impl Print, hasher: Kt128) -> io::Result<()> {
     let mut line = [b'\n'; 65];
-    put_digest(hasher, &mut line) && io::write_all(STDOUT_FILENO, &line)
+    if !put_digest(hasher, &mut line) {
+        return Err(io::Error::from(ErrorKind::Other));
+    }
+    rt.write_all(&line)
 }
 
-// The reason is that of the last read, if it failed; it is written first, since a write that fails has a reason of its own.
-fn write_read_failed(got: isize) -> bool {
-    if got < 0 {
-        os::fail(b"read failed");
+// The reason is that of the last read, if it failed; it is told first, since a write that fails has a reason of its own.
+fn write_read_failed(rt: &(impl Print + Eprint), got: io::Result<usize>) -> io::Result<()> {
+    if let Err(error) = got {
+        reason::tell(rt, "read failed", error);
     }
-    io::write_all(STDOUT_FILENO, b"read failed\n")
+    rt.write_all(b"read failed\n")
 }
 
 // A digest is written only where the last read came to the input's end.
-fn write_line(absorbed: Absorbed) -> bool {
+fn write_line(rt: &(impl Print + Eprint), absorbed: Absorbed) -> io::Result<()> {
     let answer = absorbed.answer;
     if answer.status == INPUT_TOO_LONG {
-        return io::write_all(STDOUT_FILENO, b"too long\n");
+        return rt.write_all(b"too long\n");
     }
-    if absorbed.got != 0 {
-        return write_read_failed(absorbed.got);
-    }
-    let hasher = answer.hasher;
-    write_digest(hasher)
-}
-
-fn digest_input() {
-    let mut buffer = io::large_buffer();
-    let absorbed = absorb_input(&mut buffer);
-    if !write_line(absorbed) {
-        os::fail(b"write failed");
+    match absorbed.got {
+        Ok(0) => {
+            let hasher = answer.hasher;
+            write_digest(rt, hasher)
+        }
+        got => write_read_failed(rt, got),
     }
 }
 
-// The program's own name is the first argument. Who names a file would else get the digest of something else.
-fn main() {
-    if 1 < os::arg_count() {
-        io::write_all(STDERR_FILENO, b"usage: digest < FILE\n");
+fn digest_input(rt: &(impl Input + Print + Eprint)) {
+    let mut buffer = [0u8; 65536];
+    let absorbed = absorb_input(&mut rt.reader(), &mut buffer);
+    if let Err(error) = write_line(rt, absorbed) {
+        reason::tell(rt, "write failed", error);
+    }
+}
+
+// Whether the program was given an argument beside its own name, which is the first. Its text is not asked for.
+fn has_argument(rt: &impl Env) -> bool {
+    let mut text = [0u8; 0];
+    match rt.arg(1, &mut text) {
+        Ok(_) | Err(FillError::TooLong) => true,
+        Err(FillError::NotPresent) => false,
+    }
+}
+
+// Who names a file would else get the digest of something else.
+fn main(rt: HostRuntime) {
+    if has_argument(&rt) {
+        let _ = eprintln!(rt; "usage: digest < FILE");
     } else {
-        digest_input();
+        digest_input(&rt);
     }
 }

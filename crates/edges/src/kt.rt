@@ -8,8 +8,8 @@ ghost use Rattle.std.specs.Prelude.{◌≤◌};
 use crate::{OUTPUT_PIECE, PIECE, fill, least, output_length, write_answer, write_number};
 use functions::kt::{KtAnswer, KtFunction};
 use kangarootwelve::{Kt128, Kt256, Run};
-use libc::STDOUT_FILENO;
 use sponge::status::DONE;
+use std::io;
 
 const MESSAGES: [usize; 25] = [
     0, 1, 133, 134, 135, 136, 137, 165, 166, 167, 168, 169, 8190, 8191, 8192, 8193, 8194, 16382,
@@ -103,41 +103,61 @@ fn cut(function: KtFunction, message: &[u8], customization: &[u8], out: &mut [u8
     squeezed
 }
 
-fn write_name(function: KtFunction) -> bool {
+fn write_name(rt: &impl Print, function: KtFunction) -> io::Result<()> {
     match function {
-        KtFunction::Kt128 => io::write_all(STDOUT_FILENO, b"KT128"),
-        KtFunction::Kt256 => io::write_all(STDOUT_FILENO, b"KT256"),
+        KtFunction::Kt128 => print!(rt; "KT128"),
+        KtFunction::Kt256 => print!(rt; "KT256"),
     }
 }
 
-fn write_one(function: KtFunction, message: &[u8], customization: &[u8], asked: usize) -> bool
+fn write_one(
+    rt: &impl Print,
+    function: KtFunction,
+    message: &[u8],
+    customization: &[u8],
+    asked: usize,
+) -> io::Result<()>
     requires { asked ≤ 337 }
 {
     let mut buffer = [0xa5u8; 337];
     let out = &mut buffer[0..asked];
     let status = functions::kt::hash(function, message, customization, out);
-    io::write_all(STDOUT_FILENO, b" one") && write_answer(status, out)
+    print!(rt; " one")?;
+    write_answer(rt, status, out)
 }
 
-fn write_cut(function: KtFunction, message: &[u8], customization: &[u8], asked: usize) -> bool
+fn write_cut(
+    rt: &impl Print,
+    function: KtFunction,
+    message: &[u8],
+    customization: &[u8],
+    asked: usize,
+) -> io::Result<()>
     requires { asked ≤ 337 }
 {
     let mut buffer = [0xa5u8; 337];
     let out = &mut buffer[0..asked];
     let status = cut(function, message, customization, out);
-    io::write_all(STDOUT_FILENO, b" cut") && write_answer(status, out)
+    print!(rt; " cut")?;
+    write_answer(rt, status, out)
 }
 
-fn write_line(function: KtFunction, message: &[u8], customization: &[u8], asked: usize) -> bool
+fn write_line(
+    rt: &impl Print,
+    function: KtFunction,
+    message: &[u8],
+    customization: &[u8],
+    asked: usize,
+) -> io::Result<()>
     requires { asked ≤ 337 }
 {
-    write_name(function)
-        && write_number(message.len())
-        && write_number(customization.len())
-        && write_number(asked)
-        && write_one(function, message, customization, asked)
-        && write_cut(function, message, customization, asked)
-        && io::write_all(STDOUT_FILENO, b"\n")
+    write_name(rt, function)?;
+    write_number(rt, message.len())?;
+    write_number(rt, customization.len())?;
+    write_number(rt, asked)?;
+    write_one(rt, function, message, customization, asked)?;
+    write_cut(rt, function, message, customization, asked)?;
+    println!(rt)
 }
 
 // The first n bytes of ptn, of which the buffer holds as many as are asked.
@@ -146,72 +166,84 @@ fn pattern(buffer: &[u8], n: usize) -> &[u8] {
     &buffer[0..k]
 }
 
-fn write_customizations(function: KtFunction, message: &[u8], buffer: &[u8]) -> bool {
-    let mut i: usize = 0;
-    while i < 6 {
-        if !write_line(function, message, pattern(buffer, CUSTOMIZATIONS[i]), 32) {
-            return false;
-        }
-        i += 1;
+fn write_customizations(
+    rt: &impl Print,
+    function: KtFunction,
+    message: &[u8],
+    buffer: &[u8],
+) -> io::Result<()> {
+    for i in 0..6 {
+        write_line(
+            rt,
+            function,
+            message,
+            pattern(buffer, CUSTOMIZATIONS[i]),
+            32,
+        )?;
     }
-    true
+    Ok(())
 }
 
-fn write_messages(function: KtFunction, buffer: &[u8]) -> bool {
-    let mut i: usize = 0;
-    while i < 25 {
-        if !write_customizations(function, pattern(buffer, MESSAGES[i]), buffer) {
-            return false;
-        }
-        i += 1;
+fn write_messages(rt: &impl Print, function: KtFunction, buffer: &[u8]) -> io::Result<()> {
+    for i in 0..25 {
+        write_customizations(rt, function, pattern(buffer, MESSAGES[i]), buffer)?;
     }
-    true
+    Ok(())
 }
 
-fn write_pair(function: KtFunction, pair: Pair, buffer: &[u8]) -> bool {
+fn write_pair(rt: &impl Print, function: KtFunction, pair: Pair, buffer: &[u8]) -> io::Result<()> {
     let message = pattern(buffer, pair.0);
-    write_line(function, message, pattern(buffer, pair.1), 32)
+    write_line(rt, function, message, pattern(buffer, pair.1), 32)
 }
 
-fn write_pairs(function: KtFunction, pairs: [Pair; 14], buffer: &[u8]) -> bool {
-    let mut i: usize = 0;
-    while i < 14 {
-        if !write_pair(function, pairs[i], buffer) {
-            return false;
-        }
-        i += 1;
+fn write_pairs(
+    rt: &impl Print,
+    function: KtFunction,
+    pairs: [Pair; 14],
+    buffer: &[u8],
+) -> io::Result<()> {
+    for i in 0..14 {
+        write_pair(rt, function, pairs[i], buffer)?;
     }
-    true
+    Ok(())
 }
 
-fn write_outputs(function: KtFunction, rate: usize, message: &[u8]) -> bool
+fn write_outputs(
+    rt: &impl Print,
+    function: KtFunction,
+    rate: usize,
+    message: &[u8],
+) -> io::Result<()>
     requires { (2 ≤ rate) × (rate ≤ 168) }
 {
     let customization = [0u8; 0];
-    let mut i: usize = 0;
-    while i < 7 {
-        if !write_line(function, message, &customization, output_length(rate, i)) {
-            return false;
-        }
-        i += 1;
+    for i in 0..7 {
+        write_line(
+            rt,
+            function,
+            message,
+            &customization,
+            output_length(rate, i),
+        )?;
     }
-    true
+    Ok(())
 }
 
-fn write_128(buffer: &[u8]) -> bool {
-    write_messages(KtFunction::Kt128, buffer)
-        && write_pairs(KtFunction::Kt128, PAIRS_128, buffer)
-        && write_outputs(KtFunction::Kt128, Kt128::RATE, pattern(buffer, 8192))
+fn write_128(rt: &impl Print, buffer: &[u8]) -> io::Result<()> {
+    write_messages(rt, KtFunction::Kt128, buffer)?;
+    write_pairs(rt, KtFunction::Kt128, PAIRS_128, buffer)?;
+    write_outputs(rt, KtFunction::Kt128, Kt128::RATE, pattern(buffer, 8192))
 }
 
-fn write_256(buffer: &[u8]) -> bool {
-    write_messages(KtFunction::Kt256, buffer)
-        && write_pairs(KtFunction::Kt256, PAIRS_256, buffer)
-        && write_outputs(KtFunction::Kt256, Kt256::RATE, pattern(buffer, 8192))
+fn write_256(rt: &impl Print, buffer: &[u8]) -> io::Result<()> {
+    write_messages(rt, KtFunction::Kt256, buffer)?;
+    write_pairs(rt, KtFunction::Kt256, PAIRS_256, buffer)?;
+    write_outputs(rt, KtFunction::Kt256, Kt256::RATE, pattern(buffer, 8192))
 }
 
-pub fn write_edges() -> bool {
+pub fn write_edges(rt: &impl Print) -> io::Result<()> {
     let mut buffer = [0u8; 65536];
     fill(&mut buffer);
-    write_128(&buffer) && write_256(&buffer)
+    write_128(rt, &buffer)?;
+    write_256(rt, &buffer)
 }

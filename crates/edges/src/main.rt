@@ -10,8 +10,9 @@ ghost use Rattle.std.specs.Prelude.{◌≡◌, ◌≤◌, min, length};
 
 use functions::Function;
 use hasher::{Answer, Run};
-use libc::STDOUT_FILENO;
 use sponge::status::DONE;
+use std::io;
+use std::io::ErrorKind;
 use turboshake::{TurboShake128, TurboShake256};
 
 const PIECE: usize = 7;
@@ -86,47 +87,48 @@ fn cut(function: Function, message: &[u8], domain: u8, out: &mut [u8]) -> u8 {
     squeezed
 }
 
-fn write_name(function: Function) -> bool {
+fn write_name(rt: &impl Print, function: Function) -> io::Result<()> {
     if function.rate == TurboShake128::RATE {
-        return io::write_all(STDOUT_FILENO, b"TurboSHAKE128 ");
+        return print!(rt; "TurboSHAKE128 ");
     }
-    io::write_all(STDOUT_FILENO, b"TurboSHAKE256 ")
+    print!(rt; "TurboSHAKE256 ")
 }
 
-fn write_way(is_cut: bool) -> bool {
+fn write_way(rt: &impl Print, is_cut: bool) -> io::Result<()> {
     if is_cut {
-        io::write_all(STDOUT_FILENO, b"cut")
+        print!(rt; "cut")
     } else {
-        io::write_all(STDOUT_FILENO, b"one")
+        print!(rt; "one")
     }
 }
 
 // Writes a space and the number.
-fn write_number(n: usize) -> bool {
-    io::write_all(STDOUT_FILENO, b" ") && io::print_decimal(STDOUT_FILENO, n as u64)
+fn write_number(rt: &impl Print, n: usize) -> io::Result<()> {
+    print!(rt; " {n}")
 }
 
 // Writes the bytes' digits.
-fn write_bytes(bytes: &[u8]) -> bool
+fn write_bytes(rt: &impl Print, bytes: &[u8]) -> io::Result<()>
     requires { length bytes.now ≤ 337 }
 {
     let mut text = [0u8; 674];
     let end = 2 * bytes.len();
-    hex::put(&mut text, 0, bytes) && io::write_all(STDOUT_FILENO, &text[0..end])
+    if !hexadecimal::put(&mut text, 0, bytes) {
+        return Err(io::Error::from(ErrorKind::Other));
+    }
+    rt.write_all(&text[0..end])
 }
 
 // What was asked, after the function and the way.
-fn write_asked(length: usize, domain: u8, asked: usize) -> bool {
-    write_number(length)
-        && io::write_all(STDOUT_FILENO, b" ")
-        && io::print_hex(STDOUT_FILENO, domain as u64, 2)
-        && write_number(asked)
+fn write_asked(rt: &impl Print, length: usize, domain: u8, asked: usize) -> io::Result<()> {
+    print!(rt; " {length} {domain:02x} {asked}")
 }
 
-fn write_answer(status: u8, out: &[u8]) -> bool
+fn write_answer(rt: &impl Print, status: u8, out: &[u8]) -> io::Result<()>
     requires { length out.now ≤ 337 }
 {
-    write_number(status as usize) && io::write_all(STDOUT_FILENO, b" ") && write_bytes(out)
+    print!(rt; " {status} ")?;
+    write_bytes(rt, out)
 }
 
 fn status_of(function: Function, is_cut: bool, message: &[u8], domain: u8, out: &mut [u8]) -> u8 {
@@ -137,24 +139,37 @@ fn status_of(function: Function, is_cut: bool, message: &[u8], domain: u8, out: 
     }
 }
 
-fn write_line(function: Function, is_cut: bool, message: &[u8], domain: u8, asked: usize) -> bool
+fn write_line(
+    rt: &impl Print,
+    function: Function,
+    is_cut: bool,
+    message: &[u8],
+    domain: u8,
+    asked: usize,
+) -> io::Result<()>
     requires { asked ≤ 337 }
 {
     let mut buffer = [0xa5u8; 337];
     let out = &mut buffer[0..asked];
     let status = status_of(function, is_cut, message, domain, out);
-    write_name(function)
-        && write_way(is_cut)
-        && write_asked(message.len(), domain, asked)
-        && write_answer(status, out)
-        && io::write_all(STDOUT_FILENO, b"\n")
+    write_name(rt, function)?;
+    write_way(rt, is_cut)?;
+    write_asked(rt, message.len(), domain, asked)?;
+    write_answer(rt, status, out)?;
+    println!(rt)
 }
 
-fn write_both(function: Function, message: &[u8], domain: u8, asked: usize) -> bool
+fn write_both(
+    rt: &impl Print,
+    function: Function,
+    message: &[u8],
+    domain: u8,
+    asked: usize,
+) -> io::Result<()>
     requires { asked ≤ 337 }
 {
-    write_line(function, false, message, domain, asked)
-        && write_line(function, true, message, domain, asked)
+    write_line(rt, function, false, message, domain, asked)?;
+    write_line(rt, function, true, message, domain, asked)
 }
 
 fn rate_of(function: Function) -> usize
@@ -199,64 +214,48 @@ fn output_length(rate: usize, i: usize) -> usize
     }
 }
 
-fn write_messages(function: Function, buffer: &[u8]) -> bool
+fn write_messages(rt: &impl Print, function: Function, buffer: &[u8]) -> io::Result<()>
     requires { 337 ≤ length buffer.now }
 {
     let rate = rate_of(function);
-    let mut i: usize = 0;
-    while i < 9 {
+    for i in 0..9 {
         let n = message_length(rate, i);
-        if !write_both(function, &buffer[0..n], DOMAIN, 32) {
-            return false;
-        }
-        i += 1;
+        write_both(rt, function, &buffer[0..n], DOMAIN, 32)?;
     }
-    true
+    Ok(())
 }
 
-fn write_outputs(function: Function, buffer: &[u8]) -> bool
+fn write_outputs(rt: &impl Print, function: Function, buffer: &[u8]) -> io::Result<()>
     requires { 337 ≤ length buffer.now }
 {
     let rate = rate_of(function);
-    let mut i: usize = 0;
-    while i < 7 {
+    for i in 0..7 {
         let asked = output_length(rate, i);
-        if !write_both(function, &buffer[0..0], DOMAIN, asked) {
-            return false;
-        }
-        if !write_both(function, &buffer[0..rate], DOMAIN, asked) {
-            return false;
-        }
-        i += 1;
+        write_both(rt, function, &buffer[0..0], DOMAIN, asked)?;
+        write_both(rt, function, &buffer[0..rate], DOMAIN, asked)?;
     }
-    true
+    Ok(())
 }
 
-fn write_domains(function: Function, message: &[u8]) -> bool {
-    let mut i: usize = 0;
-    while i < 5 {
-        if !write_both(function, message, DOMAINS[i], 32) {
-            return false;
-        }
-        i += 1;
+fn write_domains(rt: &impl Print, function: Function, message: &[u8]) -> io::Result<()> {
+    for i in 0..5 {
+        write_both(rt, function, message, DOMAINS[i], 32)?;
     }
-    true
+    Ok(())
 }
 
-fn write_edges(function: Function, buffer: &[u8]) -> bool
+fn write_edges(rt: &impl Print, function: Function, buffer: &[u8]) -> io::Result<()>
     requires { 337 ≤ length buffer.now }
 {
-    write_messages(function, buffer)
-        && write_outputs(function, buffer)
-        && write_domains(function, &buffer[0..3])
+    write_messages(rt, function, buffer)?;
+    write_outputs(rt, function, buffer)?;
+    write_domains(rt, function, &buffer[0..3])
 }
 
-fn main() {
+fn main(rt: HostRuntime) -> io::Result<()> {
     let mut buffer = [0u8; 337];
     fill(&mut buffer);
-    if write_edges(functions::turboshake128(), &buffer)
-        && write_edges(functions::turboshake256(), &buffer)
-    {
-        kt::write_edges();
-    }
+    write_edges(&rt, functions::turboshake128(), &buffer)?;
+    write_edges(&rt, functions::turboshake256(), &buffer)?;
+    kt::write_edges(&rt)
 }

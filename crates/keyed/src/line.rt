@@ -4,103 +4,118 @@ ghost use Rattle.std.specs.Prelude.{◌≤◌, length};
 use crate::pieces;
 use crate::pieces::least;
 use functions::keyed::KeyedFunction;
-use libc::STDOUT_FILENO;
+use std::io;
+use std::io::ErrorKind;
 
 // The longest output: two blocks and a byte.
 const LONGEST: usize = 337;
 
-fn write_name(function: KeyedFunction) -> bool {
+fn write_name(rt: &impl Print, function: KeyedFunction) -> io::Result<()> {
     match function {
-        KeyedFunction::CShake128 => io::write_all(STDOUT_FILENO, b"cSHAKE128"),
-        KeyedFunction::CShake256 => io::write_all(STDOUT_FILENO, b"cSHAKE256"),
-        KeyedFunction::Kmac128 => io::write_all(STDOUT_FILENO, b"KMAC128"),
-        KeyedFunction::Kmac256 => io::write_all(STDOUT_FILENO, b"KMAC256"),
-        KeyedFunction::KmacXof128 => io::write_all(STDOUT_FILENO, b"KMACXOF128"),
-        KeyedFunction::KmacXof256 => io::write_all(STDOUT_FILENO, b"KMACXOF256"),
+        KeyedFunction::CShake128 => print!(rt; "cSHAKE128"),
+        KeyedFunction::CShake256 => print!(rt; "cSHAKE256"),
+        KeyedFunction::Kmac128 => print!(rt; "KMAC128"),
+        KeyedFunction::Kmac256 => print!(rt; "KMAC256"),
+        KeyedFunction::KmacXof128 => print!(rt; "KMACXOF128"),
+        KeyedFunction::KmacXof256 => print!(rt; "KMACXOF256"),
     }
 }
 
 // Writes a space and the number.
-fn write_number(n: u64) -> bool {
-    io::write_all(STDOUT_FILENO, b" ") && io::print_decimal(STDOUT_FILENO, n)
+fn write_number(rt: &impl Print, n: u64) -> io::Result<()> {
+    print!(rt; " {n}")
 }
 
 // Writes the bytes' digits.
-fn write_bytes(bytes: &[u8]) -> bool
+fn write_bytes(rt: &impl Print, bytes: &[u8]) -> io::Result<()>
     requires { length bytes.now ≤ 337 }
 {
     let mut text = [0u8; 674];
     let end = 2 * bytes.len();
-    hex::put(&mut text, 0, bytes) && io::write_all(STDOUT_FILENO, &text[0..end])
+    if !hexadecimal::put(&mut text, 0, bytes) {
+        return Err(io::Error::from(ErrorKind::Other));
+    }
+    rt.write_all(&text[0..end])
 }
 
 // Writes the status and the bytes, and a space before each.
-fn write_answer(status: u8, bytes: &[u8]) -> bool
+fn write_answer(rt: &impl Print, status: u8, bytes: &[u8]) -> io::Result<()>
     requires { length bytes.now ≤ 337 }
 {
-    write_number(status as u64) && io::write_all(STDOUT_FILENO, b" ") && write_bytes(bytes)
+    print!(rt; " {status} ")?;
+    write_bytes(rt, bytes)
 }
 
 fn write_one(
+    rt: &impl Print,
     function: KeyedFunction,
     first: &[u8],
     string: &[u8],
     message: &[u8],
     asked: usize,
-) -> bool {
+) -> io::Result<()> {
     let mut buffer = [0xa5u8; LONGEST];
     let k = least(asked, LONGEST);
     let out = &mut buffer[0..k];
     let status = functions::keyed::hash(function, first, message, string, out);
-    io::write_all(STDOUT_FILENO, b" one") && write_answer(status, out)
+    print!(rt; " one")?;
+    write_answer(rt, status, out)
 }
 
 // In pieces, with one read more.
 fn write_cut(
+    rt: &impl Print,
     function: KeyedFunction,
     first: &[u8],
     string: &[u8],
     message: &[u8],
     asked: usize,
-) -> bool {
+) -> io::Result<()> {
     let mut buffer = [0xa5u8; LONGEST];
     let k = least(asked, LONGEST);
     let out = &mut buffer[0..k];
     let answer = pieces::hash(function, first, string, message, out);
     let mut byte = [0xa5u8; 1];
     let more = functions::keyed::squeeze(function, answer.keyed, &mut byte);
-    io::write_all(STDOUT_FILENO, b" cut")
-        && write_answer(answer.status, out)
-        && io::write_all(STDOUT_FILENO, b" more")
-        && write_answer(more.status, &byte)
+    print!(rt; " cut")?;
+    write_answer(rt, answer.status, out)?;
+    print!(rt; " more")?;
+    write_answer(rt, more.status, &byte)
 }
 
 pub fn write(
+    rt: &impl Print,
     function: KeyedFunction,
     first: &[u8],
     string: &[u8],
     message: &[u8],
     asked: usize,
-) -> bool {
-    write_name(function)
-        && write_number(first.len() as u64)
-        && write_number(string.len() as u64)
-        && write_number(message.len() as u64)
-        && write_number(asked as u64)
-        && write_one(function, first, string, message, asked)
-        && write_cut(function, first, string, message, asked)
-        && io::write_all(STDOUT_FILENO, b"\n")
+) -> io::Result<()> {
+    write_name(rt, function)?;
+    write_number(rt, first.len() as u64)?;
+    write_number(rt, string.len() as u64)?;
+    write_number(rt, message.len() as u64)?;
+    write_number(rt, asked as u64)?;
+    write_one(rt, function, first, string, message, asked)?;
+    write_cut(rt, function, first, string, message, asked)?;
+    println!(rt)
 }
 
 // The line of a close with this output length, and of a read of 32 bytes after it.
-pub fn write_close(function: KeyedFunction, key: &[u8], message: &[u8], output: u64) -> bool {
+pub fn write_close(
+    rt: &impl Print,
+    function: KeyedFunction,
+    key: &[u8],
+    message: &[u8],
+    output: u64,
+) -> io::Result<()> {
     let mut out = [0xa5u8; 32];
     let closed = pieces::closed(function, key, b"", message, output);
     let given = functions::keyed::squeeze(function, closed.keyed, &mut out);
-    write_name(function)
-        && io::write_all(STDOUT_FILENO, b" close")
-        && write_number(output)
-        && write_number(closed.status as u64)
-        && write_answer(given.status, &out)
-        && io::write_all(STDOUT_FILENO, b"\n")
+    write_name(rt, function)?;
+    print!(rt; " close")?;
+    write_number(rt, output)?;
+    write_number(rt, closed.status as u64)?;
+    write_answer(rt, given.status, &out)?;
+    println!(rt)
 }

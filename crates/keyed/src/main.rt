@@ -14,6 +14,7 @@ ghost use Rattle.std.specs.Prelude.{◌≤◌, length};
 use functions::keyed::KeyedFunction;
 use pieces::least;
 use sp800_185::{CShake128, CShake256};
+use std::io;
 
 // Where N or the key, and S, begin in the pattern: NIST's keys are the 32 bytes from the first on. Messages begin where the pattern does.
 const FIRST: usize = 64;
@@ -47,13 +48,18 @@ fn pattern(buffer: &[u8], n: usize) -> &[u8] {
     &buffer[0..k]
 }
 
-fn write_line(function: KeyedFunction, buffer: &[u8], lengths: Lengths) -> bool
+fn write_line(
+    rt: &impl Print,
+    function: KeyedFunction,
+    buffer: &[u8],
+    lengths: Lengths,
+) -> io::Result<()>
     requires { 128 ≤ length buffer.now }
 {
     let first = pattern(&buffer[FIRST..], lengths.0);
     let string = pattern(&buffer[STRING..], lengths.1);
     let message = pattern(buffer, lengths.2);
-    line::write(function, first, string, message, lengths.3)
+    line::write(rt, function, first, string, message, lengths.3)
 }
 
 // The i-th length of N, of the key, of S and of a message: those of the table, and 12 bytes less than a block to 5 more.
@@ -67,108 +73,141 @@ fn length_at(rate: usize, i: usize) -> usize
 }
 
 // N or the key, S, and the message, of n bytes.
-fn write_length(function: KeyedFunction, buffer: &[u8], n: usize) -> bool
+fn write_length(rt: &impl Print, function: KeyedFunction, buffer: &[u8], n: usize) -> io::Result<()>
     requires { 128 ≤ length buffer.now }
 {
-    write_line(function, buffer, Lengths(n, 0, 3, 32))
-        && write_line(function, buffer, Lengths(4, n, 3, 32))
-        && write_line(function, buffer, Lengths(4, 5, n, 32))
+    write_line(rt, function, buffer, Lengths(n, 0, 3, 32))?;
+    write_line(rt, function, buffer, Lengths(4, n, 3, 32))?;
+    write_line(rt, function, buffer, Lengths(4, 5, n, 32))
 }
 
-fn write_lengths(function: KeyedFunction, rate: usize, buffer: &[u8]) -> bool
+fn write_lengths(
+    rt: &impl Print,
+    function: KeyedFunction,
+    rate: usize,
+    buffer: &[u8],
+) -> io::Result<()>
     requires le_rate { (12 ≤ rate) × (rate ≤ 168) }
     requires in_bounds { 128 ≤ length buffer.now }
 {
-    let mut i: usize = 0;
-    while i < 29 {
-        if !write_length(function, buffer, length_at(rate, i)) {
-            return false;
-        }
-        i += 1;
+    for i in 0..29 {
+        write_length(rt, function, buffer, length_at(rate, i))?;
     }
-    true
+    Ok(())
 }
 
 // Outputs of less than a block to two blocks and a byte.
-fn write_outputs(function: KeyedFunction, rate: usize, buffer: &[u8]) -> bool
+fn write_outputs(
+    rt: &impl Print,
+    function: KeyedFunction,
+    rate: usize,
+    buffer: &[u8],
+) -> io::Result<()>
     requires le_rate { (12 ≤ rate) × (rate ≤ 168) }
     requires in_bounds { 128 ≤ length buffer.now }
 {
-    write_line(function, buffer, Lengths(4, 5, 3, 0))
-        && write_line(function, buffer, Lengths(4, 5, 3, 1))
-        && write_line(function, buffer, Lengths(4, 5, 3, rate - 1))
-        && write_line(function, buffer, Lengths(4, 5, 3, rate))
-        && write_line(function, buffer, Lengths(4, 5, 3, rate + 1))
-        && write_line(function, buffer, Lengths(4, 5, 3, 2 * rate - 1))
-        && write_line(function, buffer, Lengths(4, 5, 3, 2 * rate))
-        && write_line(function, buffer, Lengths(4, 5, 3, 2 * rate + 1))
+    write_line(rt, function, buffer, Lengths(4, 5, 3, 0))?;
+    write_line(rt, function, buffer, Lengths(4, 5, 3, 1))?;
+    write_line(rt, function, buffer, Lengths(4, 5, 3, rate - 1))?;
+    write_line(rt, function, buffer, Lengths(4, 5, 3, rate))?;
+    write_line(rt, function, buffer, Lengths(4, 5, 3, rate + 1))?;
+    write_line(rt, function, buffer, Lengths(4, 5, 3, 2 * rate - 1))?;
+    write_line(rt, function, buffer, Lengths(4, 5, 3, 2 * rate))?;
+    write_line(rt, function, buffer, Lengths(4, 5, 3, 2 * rate + 1))
 }
 
-fn write_edges(function: KeyedFunction, rate: usize, buffer: &[u8]) -> bool
+fn write_edges(
+    rt: &impl Print,
+    function: KeyedFunction,
+    rate: usize,
+    buffer: &[u8],
+) -> io::Result<()>
     requires le_rate { (12 ≤ rate) × (rate ≤ 168) }
     requires in_bounds { 128 ≤ length buffer.now }
 {
-    write_lengths(function, rate, buffer) && write_outputs(function, rate, buffer)
+    write_lengths(rt, function, rate, buffer)?;
+    write_outputs(rt, function, rate, buffer)
 }
 
-fn write_closes(function: KeyedFunction, key: &[u8], message: &[u8]) -> bool {
-    let mut i: usize = 0;
-    while i < 12 {
-        if !line::write_close(function, key, message, OUTPUTS[i]) {
-            return false;
-        }
-        i += 1;
+fn write_closes(
+    rt: &impl Print,
+    function: KeyedFunction,
+    key: &[u8],
+    message: &[u8],
+) -> io::Result<()> {
+    for i in 0..12 {
+        line::write_close(rt, function, key, message, OUTPUTS[i])?;
     }
-    true
+    Ok(())
 }
 
 // NIST's samples of KMAC or KMACXOF, and of cSHAKE.
-fn write_kmac_samples(weaker: KeyedFunction, stronger: KeyedFunction, buffer: &[u8]) -> bool
+fn write_kmac_samples(
+    rt: &impl Print,
+    weaker: KeyedFunction,
+    stronger: KeyedFunction,
+    buffer: &[u8],
+) -> io::Result<()>
     requires { 200 ≤ length buffer.now }
 {
     let key = &buffer[FIRST..96];
     let string = b"My Tagged Application";
     let short = &buffer[0..4];
     let long = &buffer[0..200];
-    line::write(weaker, key, b"", short, 32)
-        && line::write(weaker, key, string, short, 32)
-        && line::write(weaker, key, string, long, 32)
-        && line::write(stronger, key, string, short, 64)
-        && line::write(stronger, key, b"", long, 64)
-        && line::write(stronger, key, string, long, 64)
+    line::write(rt, weaker, key, b"", short, 32)?;
+    line::write(rt, weaker, key, string, short, 32)?;
+    line::write(rt, weaker, key, string, long, 32)?;
+    line::write(rt, stronger, key, string, short, 64)?;
+    line::write(rt, stronger, key, b"", long, 64)?;
+    line::write(rt, stronger, key, string, long, 64)
 }
 
-fn write_cshake_samples(buffer: &[u8]) -> bool
+fn write_cshake_samples(rt: &impl Print, buffer: &[u8]) -> io::Result<()>
     requires { 200 ≤ length buffer.now }
 {
     let string = b"Email Signature";
     let short = &buffer[0..4];
     let long = &buffer[0..200];
-    line::write(KeyedFunction::CShake128, b"", string, short, 32)
-        && line::write(KeyedFunction::CShake128, b"", string, long, 32)
-        && line::write(KeyedFunction::CShake256, b"", string, short, 64)
-        && line::write(KeyedFunction::CShake256, b"", string, long, 64)
+    line::write(rt, KeyedFunction::CShake128, b"", string, short, 32)?;
+    line::write(rt, KeyedFunction::CShake128, b"", string, long, 32)?;
+    line::write(rt, KeyedFunction::CShake256, b"", string, short, 64)?;
+    line::write(rt, KeyedFunction::CShake256, b"", string, long, 64)
 }
 
-fn write_all(buffer: &[u8]) -> bool
+fn write_all(rt: &impl Print, buffer: &[u8]) -> io::Result<()>
     requires { 200 ≤ length buffer.now }
 {
-    write_kmac_samples(KeyedFunction::Kmac128, KeyedFunction::Kmac256, buffer)
-        && write_kmac_samples(KeyedFunction::KmacXof128, KeyedFunction::KmacXof256, buffer)
-        && write_cshake_samples(buffer)
-        && write_edges(KeyedFunction::CShake128, CShake128::RATE, buffer)
-        && write_edges(KeyedFunction::CShake256, CShake256::RATE, buffer)
-        && write_edges(KeyedFunction::Kmac128, CShake128::RATE, buffer)
-        && write_edges(KeyedFunction::Kmac256, CShake256::RATE, buffer)
-        && write_edges(KeyedFunction::KmacXof128, CShake128::RATE, buffer)
-        && write_edges(KeyedFunction::KmacXof256, CShake256::RATE, buffer)
-        && write_closes(KeyedFunction::Kmac128, &buffer[FIRST..96], &buffer[0..3])
-        && write_closes(KeyedFunction::Kmac256, &buffer[FIRST..96], &buffer[0..3])
+    write_kmac_samples(rt, KeyedFunction::Kmac128, KeyedFunction::Kmac256, buffer)?;
+    write_kmac_samples(
+        rt,
+        KeyedFunction::KmacXof128,
+        KeyedFunction::KmacXof256,
+        buffer,
+    )?;
+    write_cshake_samples(rt, buffer)?;
+    write_edges(rt, KeyedFunction::CShake128, CShake128::RATE, buffer)?;
+    write_edges(rt, KeyedFunction::CShake256, CShake256::RATE, buffer)?;
+    write_edges(rt, KeyedFunction::Kmac128, CShake128::RATE, buffer)?;
+    write_edges(rt, KeyedFunction::Kmac256, CShake256::RATE, buffer)?;
+    write_edges(rt, KeyedFunction::KmacXof128, CShake128::RATE, buffer)?;
+    write_edges(rt, KeyedFunction::KmacXof256, CShake256::RATE, buffer)?;
+    write_closes(
+        rt,
+        KeyedFunction::Kmac128,
+        &buffer[FIRST..96],
+        &buffer[0..3],
+    )?;
+    write_closes(
+        rt,
+        KeyedFunction::Kmac256,
+        &buffer[FIRST..96],
+        &buffer[0..3],
+    )
 }
 
-fn main() {
+fn main(rt: HostRuntime) -> io::Result<()> {
     // 128 and 8,193: the longest S ends with the buffer
     let mut buffer = [0u8; 8321];
     fill(&mut buffer);
-    write_all(&buffer);
+    write_all(&rt, &buffer)
 }

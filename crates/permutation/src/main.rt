@@ -4,7 +4,7 @@
 
 ghost use Rattle.std.specs.Prelude.{◌<◌};
 
-use libc::STDOUT_FILENO;
+use std::io;
 
 // Byte i of the draft's test pattern ptn: 00 to FA, over and over.
 fn pattern(i: usize) -> u64
@@ -39,41 +39,31 @@ fn pattern_state() -> [u64; 25] {
 }
 
 // Writes a lane and what follows it: a line end after the last of a row, and a space else.
-fn write_lane(v: u64, last: bool) -> bool {
-    if !io::print_hex(STDOUT_FILENO, v, 16) {
-        return false;
-    }
+fn write_lane(rt: &impl Print, v: u64, last: bool) -> io::Result<()> {
     if last {
-        io::write_all(STDOUT_FILENO, b"\n")
+        println!(rt; "{v:016x}")
     } else {
-        io::write_all(STDOUT_FILENO, b" ")
+        print!(rt; "{v:016x} ")
     }
 }
 
 // Writes the 25 lanes, and stops at the first write that fails.
-fn write_state(a: [u64; 25]) -> bool {
-    let mut k: usize = 0;
-    while k < 25 {
-        if !write_lane(a[k], k % 5 == 4) {
-            return false;
-        }
-        k += 1;
+fn write_state(rt: &impl Print, a: [u64; 25]) -> io::Result<()> {
+    for k in 0..25 {
+        write_lane(rt, a[k], k % 5 == 4)?;
     }
-    true
+    Ok(())
 }
 
 // Writes a heading and the permuted state below it.
-fn write_permuted(heading: &[u8], a: [u64; 25]) -> bool {
-    if !io::write_all(STDOUT_FILENO, heading) {
-        return false;
-    }
+fn write_permuted(rt: &impl Print, heading: &str, a: [u64; 25]) -> io::Result<()> {
+    println!(rt; "{heading}")?;
     let permuted = keccak::permute(a, 12);
     let lanes = permuted.lanes;
-    write_state(lanes)
+    write_state(rt, lanes)
 }
 
-fn main() {
-    if write_permuted(b"zero\n", [0u64; 25]) {
-        write_permuted(b"ptn(200)\n", pattern_state());
-    }
+fn main(rt: HostRuntime) -> io::Result<()> {
+    write_permuted(&rt, "zero", [0u64; 25])?;
+    write_permuted(&rt, "ptn(200)", pattern_state())
 }

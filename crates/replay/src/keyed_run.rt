@@ -7,8 +7,8 @@ use crate::part::{Part, part_at};
 use crate::session::Session;
 use crate::{by_number, field, line, number, session};
 use functions::keyed::{KeyedAnswer, KeyedFunction, KeyedRun};
-use libc::STDOUT_FILENO;
 use sponge::status::DONE;
+use std::io;
 
 // The run in hand.
 fn in_hand(session: Session) -> KeyedRun {
@@ -29,24 +29,26 @@ fn with_run(session: Session, keyed: KeyedRun) -> Session {
     next
 }
 
-// The run that a call handed back is in hand, and its line was written or not.
-fn with_answer(session: Session, answer: KeyedAnswer, is_written: bool) -> Session {
+// The run that a call handed back is in hand.
+fn with_answer(session: Session, answer: KeyedAnswer) -> Session {
     let keyed = answer.keyed;
-    session::after_line(with_run(session, keyed), is_written)
+    with_run(session, keyed)
 }
 
-fn answered(session: Session, answer: KeyedAnswer) -> Session {
-    with_answer(session, answer, line::write_status(answer.status))
+fn answered(rt: &impl Print, session: Session, answer: KeyedAnswer) -> io::Result<Session> {
+    line::write_status(rt, answer.status)?;
+    Ok(with_answer(session, answer))
 }
 
 // A refused start leaves the run in hand.
 fn begin(
+    rt: &impl Print,
     session: Session,
     function: KeyedFunction,
     payload: &[u8],
     first: Part,
     string: Part,
-) -> Session
+) -> io::Result<Session>
     requires { (first.from ≤ first.end) × (first.end ≤ length payload.now) × (string.from ≤ string.end) × (string.end ≤ length payload.now) }
 {
     let first_from = first.from;
@@ -58,120 +60,150 @@ fn begin(
         &payload[first_from..first_end],
         &payload[from..end],
     );
-    let is_written = line::write_status(answer.status);
+    line::write_status(rt, answer.status)?;
     if answer.status != DONE {
-        return session::after_line(session, is_written);
+        return Ok(session);
     }
-    session::begun(session, function, answer.keyed, is_written)
+    Ok(session::begun(session, function, answer.keyed))
 }
 
 // Op n.
-pub fn start(session: Session, payload: &[u8]) -> Session {
+pub fn start(rt: &impl Print, session: Session, payload: &[u8]) -> io::Result<Session> {
     if payload.len() == 0 {
-        return session::bad_record(session);
+        return session::bad_record(rt, session);
     }
     let Chosen::Keyed(function) = by_number::function_of(payload[0]) else {
-        return session::bad_record(session);
+        return session::bad_record(rt, session);
     };
     let first = part_at(payload, 1);
     if !first.fits {
-        return session::bad_record(session);
+        return session::bad_record(rt, session);
     }
     let string = part_at(payload, first.end);
     if !string.fits || string.end != payload.len() {
-        return session::bad_record(session);
+        return session::bad_record(rt, session);
     }
-    begin(session, function, payload, first, string)
+    begin(rt, session, function, payload, first, string)
 }
 
 // With an output length where the function fixes it, else with nothing.
-fn finalize(session: Session, function: KeyedFunction, payload: &[u8]) -> Session {
+fn finalize(
+    rt: &impl Print,
+    session: Session,
+    function: KeyedFunction,
+    payload: &[u8],
+) -> io::Result<Session> {
     let given = in_hand(session);
     match field::own_field(function) {
         OwnField::Length => {
             if payload.len() != 8 {
-                return session::bad_record(session);
+                return session::bad_record(rt, session);
             }
             let length = number::of_eight(payload, 0);
-            answered(session, functions::keyed::finalize(function, given, length))
+            answered(
+                rt,
+                session,
+                functions::keyed::finalize(function, given, length),
+            )
         }
         _ => {
             if payload.len() != 0 {
-                return session::bad_record(session);
+                return session::bad_record(rt, session);
             }
-            answered(session, functions::keyed::finalize(function, given, 0))
+            answered(rt, session, functions::keyed::finalize(function, given, 0))
         }
     }
 }
 
-fn set(session: Session, function: KeyedFunction, payload: &[u8]) -> Session {
+fn set(
+    rt: &impl Print,
+    session: Session,
+    function: KeyedFunction,
+    payload: &[u8],
+) -> io::Result<Session> {
     if payload.len() != 9 {
-        return session::bad_record(session);
+        return session::bad_record(rt, session);
     }
     let given = in_hand(session);
     let written = field::write_keyed(function, given, payload[0], number::of_eight(payload, 1));
     if !written.is_done {
-        return session::bad_record(session);
+        return session::bad_record(rt, session);
     }
     let keyed = written.keyed;
-    session::after_line(
-        with_run(session, keyed),
-        io::write_all(STDOUT_FILENO, b"set\n"),
-    )
+    println!(rt; "set")?;
+    Ok(with_run(session, keyed))
 }
 
-fn write_line(function: KeyedFunction, keyed: KeyedRun, text: &mut [u8]) -> bool
+fn write_line(
+    rt: &impl Print,
+    function: KeyedFunction,
+    keyed: KeyedRun,
+    text: &mut [u8],
+) -> io::Result<()>
     requires { 496 ≤ length text.old }
 {
     let run = keyed.run;
     let bit = if keyed.shake { 1 } else { 0 };
     match field::own_field(function) {
-        OwnField::Bit => line::write_run_with(run, bit, 2, text),
-        OwnField::Length => line::write_run_with(run, keyed.output_length, 16, text),
-        OwnField::Nothing => line::write_run(run, text),
+        OwnField::Bit => line::write_run_with(rt, run, bit, 2, text),
+        OwnField::Length => line::write_run_with(rt, run, keyed.output_length, 16, text),
+        OwnField::Nothing => line::write_run(rt, run, text),
     }
 }
 
-fn dump(session: Session, function: KeyedFunction, payload: &[u8], text: &mut [u8]) -> Session
+fn dump(
+    rt: &impl Print,
+    session: Session,
+    function: KeyedFunction,
+    payload: &[u8],
+    text: &mut [u8],
+) -> io::Result<Session>
     requires { 496 ≤ length text.old }
 {
     if payload.len() != 0 {
-        return session::bad_record(session);
+        return session::bad_record(rt, session);
     }
     let keyed = in_hand(session);
-    session::after_line(session, write_line(function, keyed, text))
+    write_line(rt, function, keyed, text)?;
+    Ok(session)
 }
 
 pub fn answer(
+    rt: &impl Print,
     session: Session,
     function: KeyedFunction,
     op: u8,
     payload: &[u8],
     text: &mut [u8],
-) -> Session
+) -> io::Result<Session>
     requires { 496 ≤ length text.old }
 {
     let given = in_hand(session);
     match op {
-        b'A' => answered(session, functions::keyed::absorb(function, given, payload)),
-        b'F' => finalize(session, function, payload),
-        b'S' => set(session, function, payload),
-        b'D' => dump(session, function, payload, text),
-        _ => session::bad_record(session),
+        b'A' => answered(
+            rt,
+            session,
+            functions::keyed::absorb(function, given, payload),
+        ),
+        b'F' => finalize(rt, session, function, payload),
+        b'S' => set(rt, session, function, payload),
+        b'D' => dump(rt, session, function, payload, text),
+        _ => session::bad_record(rt, session),
     }
 }
 
 pub fn squeeze(
+    rt: &impl Print,
     session: Session,
     function: KeyedFunction,
     out: &mut [u8],
     text: &mut [u8],
-) -> Session
+) -> io::Result<Session>
     requires { 2 * length out.old + 2 ≤ length text.old }
 {
     session::fill(out);
     let given = in_hand(session);
     let answer = functions::keyed::squeeze(function, given, out);
-    let is_written = line::write_output(answer.status, out, text);
-    with_answer(session, answer, is_written)
+    line::write_output(rt, answer.status, out, text)?;
+    Ok(with_answer(session, answer))
 }

@@ -5,7 +5,7 @@ use crate::one_go::KtAsked;
 use crate::session::Session;
 use crate::{kt_run, line, number, one_go, session};
 use functions::kt::KtFunction;
-use libc::STDOUT_FILENO;
+use std::io;
 
 // The most words that a record lends.
 const MOST_WORDS: u64 = 300;
@@ -25,36 +25,47 @@ fn all_are(words: &[u64], value: u64) -> bool {
 }
 
 // Writes what the words hold after the call, and the line end.
-fn write_words(words: &[u64]) -> bool {
+fn write_words(rt: &impl Print, words: &[u64]) -> io::Result<()> {
     if all_are(words, BEFORE) {
-        return io::write_all(STDOUT_FILENO, b"kept\n");
+        return println!(rt; "kept");
     }
     if all_are(words, 0) {
-        return io::write_all(STDOUT_FILENO, b"zero\n");
+        return println!(rt; "zero");
     }
-    io::write_all(STDOUT_FILENO, b"other\n")
+    println!(rt; "other")
 }
 
-fn absorb_with(session: Session, function: KtFunction, piece: &[u8], words: &mut [u64]) -> Session {
+fn absorb_with(
+    rt: &impl Print,
+    session: Session,
+    function: KtFunction,
+    piece: &[u8],
+    words: &mut [u64],
+) -> io::Result<Session> {
     let given = session.kt_run;
     let answer = functions::kt::absorb_abreast(function, given, piece, words);
-    let is_written = io::print_decimal(STDOUT_FILENO, answer.status as u64)
-        && io::write_all(STDOUT_FILENO, b" ")
-        && write_words(words);
-    kt_run::with_answer(session, answer, is_written)
+    print!(rt; "{} ", answer.status)?;
+    write_words(rt, words)?;
+    Ok(kt_run::with_answer(session, answer))
 }
 
 // Op a.
-pub fn absorb(session: Session, function: KtFunction, payload: &[u8]) -> Session {
+pub fn absorb(
+    rt: &impl Print,
+    session: Session,
+    function: KtFunction,
+    payload: &[u8],
+) -> io::Result<Session> {
     if payload.len() < 2 {
-        return session::bad_record(session);
+        return session::bad_record(rt, session);
     }
     let count = number::of_two(payload, 0);
     if MOST_WORDS < count {
-        return session::bad_record(session);
+        return session::bad_record(rt, session);
     }
     let mut words = [BEFORE; 300];
     absorb_with(
+        rt,
         session,
         function,
         &payload[2..],
@@ -75,54 +86,64 @@ fn put_hash(asked: KtAsked, payload: &[u8], out: &mut [u8], words: &mut [u64]) -
 
 // `out` is as long as what is asked.
 fn write_hash(
+    rt: &impl Print,
     session: Session,
     asked: KtAsked,
     payload: &[u8],
     out: &mut [u8],
     words: &mut [u64],
     text: &mut [u8],
-) -> Session
+) -> io::Result<Session>
     requires from_le_end { (asked.from ≤ asked.end) × (asked.end ≤ length payload.now) }
     requires out_in_bounds { 2 * length out.old + 2 ≤ length text.old }
 {
     let status = put_hash(asked, payload, out, words);
-    let is_written = line::write_ended(status, out, b' ', text) && write_words(words);
-    session::after_line(session, is_written)
+    line::write_ended(rt, status, out, b' ', text)?;
+    write_words(rt, words)?;
+    Ok(session)
 }
 
 // The payload after the number of words.
 fn hash_with(
+    rt: &impl Print,
     session: Session,
     payload: &[u8],
     out: &mut [u8],
     words: &mut [u64],
     text: &mut [u8],
-) -> Session
+) -> io::Result<Session>
     requires in_bounds { 262144 ≤ length out.old }
     requires in_bounds_2 { 524290 ≤ length text.old }
 {
     let asked = one_go::kt_asked(payload);
     if !asked.fits {
-        return session::bad_record(session);
+        return session::bad_record(rt, session);
     }
     let size = asked.size;
-    write_hash(session, asked, payload, &mut out[0..size], words, text)
+    write_hash(rt, session, asked, payload, &mut out[0..size], words, text)
 }
 
 // Op k.
-pub fn hash(session: Session, payload: &[u8], out: &mut [u8], text: &mut [u8]) -> Session
+pub fn hash(
+    rt: &impl Print,
+    session: Session,
+    payload: &[u8],
+    out: &mut [u8],
+    text: &mut [u8],
+) -> io::Result<Session>
     requires in_bounds { 262144 ≤ length out.old }
     requires in_bounds_2 { 524290 ≤ length text.old }
 {
     if payload.len() < 2 {
-        return session::bad_record(session);
+        return session::bad_record(rt, session);
     }
     let count = number::of_two(payload, 0);
     if MOST_WORDS < count {
-        return session::bad_record(session);
+        return session::bad_record(rt, session);
     }
     let mut words = [BEFORE; 300];
     hash_with(
+        rt,
         session,
         &payload[2..],
         out,

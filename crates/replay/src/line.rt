@@ -4,7 +4,7 @@
 // numbers and 955 bytes; of SP 800-185 also what the run has beside.
 ghost use Rattle.std.specs.Prelude.{◌≡◌, true, ◌+◌, ◌*◌, ◌<◌, ◌≤◌, length};
 
-use libc::STDOUT_FILENO;
+use std::io;
 
 // A store of its own: what a call leaves of the text's length is known to the caller, who needs no proof file then.
 fn put(text: &mut [u8], at: usize, character: u8)
@@ -18,7 +18,7 @@ fn put_digits(text: &mut [u8], at: usize, bytes: &[u8]) -> bool
     requires { at + 2 * length bytes.now ≤ length text.old }
     ensures { result ≡ true }
 {
-    hex::put(text, at, bytes)
+    hexadecimal::put(text, at, bytes)
 }
 
 // Puts number k of a run's line.
@@ -72,21 +72,27 @@ fn put_run(text: &mut [u8], run: hasher::Run)
     put(text, 495, b'\n');
 }
 
-pub fn write_run(run: hasher::Run, text: &mut [u8]) -> bool
+pub fn write_run(rt: &impl Print, run: hasher::Run, text: &mut [u8]) -> io::Result<()>
     requires { 496 ≤ length text.old }
 {
     put_run(text, run);
-    io::write_all(STDOUT_FILENO, &text[0..496])
+    rt.write_all(&text[0..496])
 }
 
 // Writes the same with a total more, of so many digits, between the permutations and the position.
-pub fn write_run_with(run: hasher::Run, total: u64, digits: usize, text: &mut [u8]) -> bool
+pub fn write_run_with(
+    rt: &impl Print,
+    run: hasher::Run,
+    total: u64,
+    digits: usize,
+    text: &mut [u8],
+) -> io::Result<()>
     requires { 496 ≤ length text.old }
 {
     put_run(text, run);
-    io::write_all(STDOUT_FILENO, &text[0..54])
-        && io::print_hex(STDOUT_FILENO, total, digits)
-        && io::write_all(STDOUT_FILENO, &text[53..496])
+    rt.write_all(&text[0..54])?;
+    print!(rt; "{total:0digits$x}")?;
+    rt.write_all(&text[53..496])
 }
 
 // Puts the positions of a run of KT.
@@ -99,7 +105,7 @@ fn put_positions(text: &mut [u8], node: u64, leaf: u64)
 
 // The same of KT: after the bytes squeezed the customization bytes and the permutations; the positions of the final node and of the leaf, then the
 // lanes of each.
-pub fn write_kt_run(run: kangarootwelve::Run, text: &mut [u8]) -> bool
+pub fn write_kt_run(rt: &impl Print, run: kangarootwelve::Run, text: &mut [u8]) -> io::Result<()>
     requires { 955 ≤ length text.old }
 {
     let node = run.node;
@@ -113,39 +119,42 @@ pub fn write_kt_run(run: kangarootwelve::Run, text: &mut [u8]) -> bool
     put_lanes(text, 6, node_lanes);
     put_lanes(text, 31, leaf_lanes);
     put(text, 954, b'\n');
-    io::write_all(STDOUT_FILENO, &text[0..955])
+    rt.write_all(&text[0..955])
 }
 
-pub fn write_status(status: u8) -> bool {
-    io::print_decimal(STDOUT_FILENO, status as u64) && io::write_all(STDOUT_FILENO, b"\n")
+pub fn write_status(rt: &impl Print, status: u8) -> io::Result<()> {
+    println!(rt; "{status}")
 }
 
 // Writes the status, a space, the bytes and a last character.
-pub fn write_ended(status: u8, out: &[u8], last: u8, text: &mut [u8]) -> bool
+pub fn write_ended(
+    rt: &impl Print,
+    status: u8,
+    out: &[u8],
+    last: u8,
+    text: &mut [u8],
+) -> io::Result<()>
     requires { 2 * length out.now + 2 ≤ length text.old }
 {
     let end = 2 * out.len() + 1;
     put(text, 0, b' ');
     put_digits(text, 1, out);
     put(text, end, last);
-    io::print_decimal(STDOUT_FILENO, status as u64)
-        && io::write_all(STDOUT_FILENO, &text[0..end + 1])
+    print!(rt; "{status}")?;
+    rt.write_all(&text[0..end + 1])
 }
 
 // Writes the status, a space and the bytes.
-pub fn write_output(status: u8, out: &[u8], text: &mut [u8]) -> bool
+pub fn write_output(rt: &impl Print, status: u8, out: &[u8], text: &mut [u8]) -> io::Result<()>
     requires { 2 * length out.now + 2 ≤ length text.old }
 {
-    write_ended(status, out, b'\n', text)
+    write_ended(rt, status, out, b'\n', text)
 }
 
 // Writes the status, a space and `yes` or `no`.
-pub fn write_verdict(status: u8, valid: bool) -> bool {
-    if !io::print_decimal(STDOUT_FILENO, status as u64) {
-        return false;
-    }
+pub fn write_verdict(rt: &impl Print, status: u8, valid: bool) -> io::Result<()> {
     if valid {
-        return io::write_all(STDOUT_FILENO, b" yes\n");
+        return println!(rt; "{status} yes");
     }
-    io::write_all(STDOUT_FILENO, b" no\n")
+    println!(rt; "{status} no")
 }

@@ -48,6 +48,7 @@
 mod by_number;
 mod field;
 mod hopmac;
+mod input;
 mod journal_run;
 mod keyed_one_go;
 mod keyed_run;
@@ -64,100 +65,134 @@ mod sponge_run;
 ghost use Rattle.std.specs.Prelude.{◌+◌, ◌*◌, ◌≤◌, length};
 
 use by_number::Chosen;
-use libc::STDIN_FILENO;
 use session::Session;
+use std::io;
+use std::io::Read;
 
 // The records, but R, that are for the run in hand.
-fn answer_run(session: Session, op: u8, payload: &[u8], text: &mut [u8]) -> Session
+fn answer_run(
+    rt: &impl Print,
+    session: Session,
+    op: u8,
+    payload: &[u8],
+    text: &mut [u8],
+) -> io::Result<Session>
     requires { 955 ≤ length text.old }
 {
     let chosen = session.chosen;
     match chosen {
-        Chosen::Sponge(function) => sponge_run::answer(session, function, op, payload, text),
-        Chosen::Kt(function) => kt_run::answer(session, function, op, payload, text),
-        Chosen::Journal => journal_run::answer(session, op, payload, text),
-        Chosen::Keyed(function) => keyed_run::answer(session, function, op, payload, text),
-        Chosen::Nothing => session::bad_record(session),
+        Chosen::Sponge(function) => sponge_run::answer(rt, session, function, op, payload, text),
+        Chosen::Kt(function) => kt_run::answer(rt, session, function, op, payload, text),
+        Chosen::Journal => journal_run::answer(rt, session, op, payload, text),
+        Chosen::Keyed(function) => keyed_run::answer(rt, session, function, op, payload, text),
+        Chosen::Nothing => session::bad_record(rt, session),
     }
 }
 
 // R: `out` is as long as what is asked.
-fn answer_squeeze(session: Session, out: &mut [u8], text: &mut [u8]) -> Session
+fn answer_squeeze(
+    rt: &impl Print,
+    session: Session,
+    out: &mut [u8],
+    text: &mut [u8],
+) -> io::Result<Session>
     requires { 2 * length out.old + 2 ≤ length text.old }
 {
     let chosen = session.chosen;
     match chosen {
-        Chosen::Sponge(function) => sponge_run::squeeze(session, function, out, text),
-        Chosen::Kt(function) => kt_run::squeeze(session, function, out, text),
-        Chosen::Journal => journal_run::squeeze(session, out, text),
-        Chosen::Keyed(function) => keyed_run::squeeze(session, function, out, text),
-        Chosen::Nothing => session::bad_record(session),
+        Chosen::Sponge(function) => sponge_run::squeeze(rt, session, function, out, text),
+        Chosen::Kt(function) => kt_run::squeeze(rt, session, function, out, text),
+        Chosen::Journal => journal_run::squeeze(rt, session, out, text),
+        Chosen::Keyed(function) => keyed_run::squeeze(rt, session, function, out, text),
+        Chosen::Nothing => session::bad_record(rt, session),
     }
 }
 
-fn answer(session: Session, op: u8, payload: &[u8], out: &mut [u8], text: &mut [u8]) -> Session
+fn answer(
+    rt: &impl Print,
+    session: Session,
+    op: u8,
+    payload: &[u8],
+    out: &mut [u8],
+    text: &mut [u8],
+) -> io::Result<Session>
     requires in_bounds { 262144 ≤ length out.old }
     requires in_bounds_2 { 524290 ≤ length text.old }
 {
     match op {
-        b'N' => session::fresh(session, payload),
-        b'n' => keyed_run::start(session, payload),
-        b'M' => keyed_one_go::hash(session, payload, out, text),
-        b'T' => one_go::with_domain(session, payload, out, text),
-        b'B' => one_go::without_domain(session, payload, out, text),
-        b'P' | b'I' => permutation::answer(session, op, payload, out, text),
-        b'K' => one_go::kt(session, payload, out, text),
-        b'k' => lent::hash(session, payload, out, text),
-        b'H' => hopmac::tag(session, payload, out, text),
-        b'V' => hopmac::verify(session, payload),
-        _ => answer_run(session, op, payload, text),
+        b'N' => session::fresh(rt, session, payload),
+        b'n' => keyed_run::start(rt, session, payload),
+        b'M' => keyed_one_go::hash(rt, session, payload, out, text),
+        b'T' => one_go::with_domain(rt, session, payload, out, text),
+        b'B' => one_go::without_domain(rt, session, payload, out, text),
+        b'P' | b'I' => permutation::answer(rt, session, op, payload, out, text),
+        b'K' => one_go::kt(rt, session, payload, out, text),
+        b'k' => lent::hash(rt, session, payload, out, text),
+        b'H' => hopmac::tag(rt, session, payload, out, text),
+        b'V' => hopmac::verify(rt, session, payload),
+        _ => answer_run(rt, session, op, payload, text),
     }
 }
 
 // Reads a payload as long as the buffer, and does the call.
 fn answer_payload(
+    rt: &impl Print,
+    input: &mut impl Read,
     session: Session,
     op: u8,
     payload: &mut [u8],
     out: &mut [u8],
     text: &mut [u8],
-) -> Session
+) -> io::Result<Session>
     requires in_bounds { 262144 ≤ length out.old }
     requires in_bounds_2 { 524290 ≤ length text.old }
 {
-    if io::read_full(STDIN_FILENO, payload) < payload.len() {
-        return session::bad_record(session);
+    if input::read_full(input, payload)? < payload.len() {
+        return session::bad_record(rt, session);
     }
-    answer(session, op, payload, out, text)
+    answer(rt, session, op, payload, out, text)
 }
 
-fn answer_record(session: Session, payload: &mut [u8], out: &mut [u8], text: &mut [u8]) -> Session
+fn answer_record(
+    rt: &impl Print,
+    input: &mut impl Read,
+    session: Session,
+    payload: &mut [u8],
+    out: &mut [u8],
+    text: &mut [u8],
+) -> io::Result<Session>
     requires in_bounds { 262144 ≤ length payload.old }
     requires in_bounds_2 { 262144 ≤ length out.old }
     requires in_bounds_3 { 524290 ≤ length text.old }
 {
     let mut head = [0u8; 5];
-    let got = io::read_full(STDIN_FILENO, &mut head);
+    let got = input::read_full(input, &mut head)?;
     if got == 0 {
-        return session::end(session);
+        return Ok(session::end(session));
     }
     if got < 5 {
-        return session::bad_record(session);
+        return session::bad_record(rt, session);
     }
     let op = head[0];
     let asked = number::of_four(&head, 1);
     if session::MOST < asked {
-        return session::bad_record(session);
+        return session::bad_record(rt, session);
     }
     let n = asked as usize;
     if op == b'R' {
-        return answer_squeeze(session, &mut out[0..n], text);
+        return answer_squeeze(rt, session, &mut out[0..n], text);
     }
-    answer_payload(session, op, &mut payload[0..n], out, text)
+    answer_payload(rt, input, session, op, &mut payload[0..n], out, text)
 }
 
 // A proved loop has to end, and nothing says that the input does: the turns are counted down from a number that no run uses up.
-fn replay(payload: &mut [u8], out: &mut [u8], text: &mut [u8])
+fn replay(
+    rt: &impl Print,
+    input: &mut impl Read,
+    payload: &mut [u8],
+    out: &mut [u8],
+    text: &mut [u8],
+) -> io::Result<()>
     requires in_bounds { 262144 ≤ length payload.old }
     requires in_bounds_2 { 262144 ≤ length out.old }
     requires in_bounds_3 { 524290 ≤ length text.old }
@@ -165,14 +200,15 @@ fn replay(payload: &mut [u8], out: &mut [u8], text: &mut [u8])
     let mut session = session::begin();
     let mut turns = u64::MAX;
     while turns > 0 && session.is_going {
-        session = answer_record(session, payload, out, text);
+        session = answer_record(rt, input, session, payload, out, text)?;
         turns -= 1;
     }
+    Ok(())
 }
 
-fn main() {
+fn main(rt: HostRuntime) -> io::Result<()> {
     let mut payload = [0u8; 262144];
     let mut out = [0u8; 262144];
     let mut text = [0u8; 524290];
-    replay(&mut payload, &mut out, &mut text);
+    replay(&rt, &mut rt.reader(), &mut payload, &mut out, &mut text)
 }

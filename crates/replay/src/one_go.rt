@@ -7,39 +7,49 @@ use crate::session::{MOST, Session};
 use crate::{by_number, line, number, session};
 use functions::Function;
 use functions::kt::KtFunction;
+use std::io;
 
 // `out` is as long as what is asked.
 fn hash(
+    rt: &impl Print,
     session: Session,
     function: Function,
     message: &[u8],
     domain: u8,
     out: &mut [u8],
     text: &mut [u8],
-) -> Session
+) -> io::Result<Session>
     requires { 2 * length out.old + 2 ≤ length text.old }
 {
     session::fill(out);
     let status = functions::hash(function, message, domain, out);
-    session::after_line(session, line::write_output(status, out, text))
+    line::write_output(rt, status, out, text)?;
+    Ok(session)
 }
 
 // Op T: of a function that has a domain byte.
-pub fn with_domain(session: Session, payload: &[u8], out: &mut [u8], text: &mut [u8]) -> Session
+pub fn with_domain(
+    rt: &impl Print,
+    session: Session,
+    payload: &[u8],
+    out: &mut [u8],
+    text: &mut [u8],
+) -> io::Result<Session>
     requires in_bounds { 262144 ≤ length out.old }
     requires in_bounds_2 { 524290 ≤ length text.old }
 {
     if payload.len() < 6 {
-        return session::bad_record(session);
+        return session::bad_record(rt, session);
     }
     let Chosen::Sponge(function) = by_number::function_of(payload[0]) else {
-        return session::bad_record(session);
+        return session::bad_record(rt, session);
     };
     let asked = number::of_four(payload, 2);
     if MOST < asked || !function.domain {
-        return session::bad_record(session);
+        return session::bad_record(rt, session);
     }
     hash(
+        rt,
         session,
         function,
         &payload[6..],
@@ -50,21 +60,28 @@ pub fn with_domain(session: Session, payload: &[u8], out: &mut [u8], text: &mut 
 }
 
 // Op B: of a function that has none.
-pub fn without_domain(session: Session, payload: &[u8], out: &mut [u8], text: &mut [u8]) -> Session
+pub fn without_domain(
+    rt: &impl Print,
+    session: Session,
+    payload: &[u8],
+    out: &mut [u8],
+    text: &mut [u8],
+) -> io::Result<Session>
     requires in_bounds { 262144 ≤ length out.old }
     requires in_bounds_2 { 524290 ≤ length text.old }
 {
     if payload.len() < 5 {
-        return session::bad_record(session);
+        return session::bad_record(rt, session);
     }
     let Chosen::Sponge(function) = by_number::function_of(payload[0]) else {
-        return session::bad_record(session);
+        return session::bad_record(rt, session);
     };
     let asked = number::of_four(payload, 1);
     if MOST < asked || function.domain {
-        return session::bad_record(session);
+        return session::bad_record(rt, session);
     }
     hash(
+        rt,
         session,
         function,
         &payload[5..],
@@ -117,12 +134,13 @@ pub fn kt_asked(payload: &[u8]) -> KtAsked
 
 // `out` is as long as what is asked.
 fn kt_hash(
+    rt: &impl Print,
     session: Session,
     asked: KtAsked,
     payload: &[u8],
     out: &mut [u8],
     text: &mut [u8],
-) -> Session
+) -> io::Result<Session>
     requires from_le_end { (asked.from ≤ asked.end) × (asked.end ≤ length payload.now) }
     requires out_in_bounds { 2 * length out.old + 2 ≤ length text.old }
 {
@@ -131,18 +149,25 @@ fn kt_hash(
     let end = asked.end;
     session::fill(out);
     let status = functions::kt::hash(function, &payload[end..], &payload[from..end], out);
-    session::after_line(session, line::write_output(status, out, text))
+    line::write_output(rt, status, out, text)?;
+    Ok(session)
 }
 
 // Op K.
-pub fn kt(session: Session, payload: &[u8], out: &mut [u8], text: &mut [u8]) -> Session
+pub fn kt(
+    rt: &impl Print,
+    session: Session,
+    payload: &[u8],
+    out: &mut [u8],
+    text: &mut [u8],
+) -> io::Result<Session>
     requires in_bounds { 262144 ≤ length out.old }
     requires in_bounds_2 { 524290 ≤ length text.old }
 {
     let asked = kt_asked(payload);
     if !asked.fits {
-        return session::bad_record(session);
+        return session::bad_record(rt, session);
     }
     let size = asked.size;
-    kt_hash(session, asked, payload, &mut out[0..size], text)
+    kt_hash(rt, session, asked, payload, &mut out[0..size], text)
 }

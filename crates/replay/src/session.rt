@@ -5,7 +5,7 @@ use functions::Function;
 use functions::keyed::{KeyedFunction, KeyedRun};
 use functions::kt::KtFunction;
 use journal::Journal;
-use libc::STDOUT_FILENO;
+use std::io;
 
 // The most bytes of a payload, and of an output.
 pub const MOST: u64 = 262144;
@@ -36,60 +36,55 @@ pub fn begin() -> Session {
     }
 }
 
-// The session after a line that was written or not: a failed write ends the program.
-pub fn after_line(session: Session, is_written: bool) -> Session {
+pub fn end(session: Session) -> Session {
     let mut next = session;
-    next.is_going = is_written;
+    next.is_going = false;
     next
 }
 
-pub fn end(session: Session) -> Session {
-    after_line(session, false)
+pub fn bad_record(rt: &impl Print, session: Session) -> io::Result<Session> {
+    println!(rt; "bad record")?;
+    Ok(end(session))
 }
 
-pub fn bad_record(session: Session) -> Session {
-    io::write_all(STDOUT_FILENO, b"bad record\n");
-    end(session)
-}
-
-fn fresh_sponge(session: Session, function: Function) -> Session {
+fn fresh_sponge(rt: &impl Print, session: Session, function: Function) -> io::Result<Session> {
     let run = hasher::fresh();
     let kt_run = session.kt_run;
-    let is_written = io::write_all(STDOUT_FILENO, b"fresh\n");
-    Session {
-        is_going: is_written,
+    println!(rt; "fresh")?;
+    Ok(Session {
+        is_going: true,
         chosen: Chosen::Sponge(function),
         run,
         shake: false,
         output_length: 0,
         kt_run,
-    }
+    })
 }
 
-fn fresh_kt(session: Session, chosen: Chosen, kt_run: kangarootwelve::Run) -> Session {
+fn fresh_kt(
+    rt: &impl Print,
+    session: Session,
+    chosen: Chosen,
+    kt_run: kangarootwelve::Run,
+) -> io::Result<Session> {
     let run = session.run;
-    let is_written = io::write_all(STDOUT_FILENO, b"fresh\n");
-    Session {
-        is_going: is_written,
+    println!(rt; "fresh")?;
+    Ok(Session {
+        is_going: true,
         chosen,
         run,
         shake: false,
         output_length: 0,
         kt_run,
-    }
+    })
 }
 
-// The run of a start that was done is in hand, and its line was written or not.
-pub fn begun(
-    session: Session,
-    function: KeyedFunction,
-    keyed: KeyedRun,
-    is_written: bool,
-) -> Session {
+// The run of a start that was done is in hand.
+pub fn begun(session: Session, function: KeyedFunction, keyed: KeyedRun) -> Session {
     let run = keyed.run;
     let kt_run = session.kt_run;
     Session {
-        is_going: is_written,
+        is_going: true,
         chosen: Chosen::Keyed(function),
         run,
         shake: keyed.shake,
@@ -98,21 +93,22 @@ pub fn begun(
     }
 }
 
-pub fn fresh(session: Session, payload: &[u8]) -> Session {
+pub fn fresh(rt: &impl Print, session: Session, payload: &[u8]) -> io::Result<Session> {
     if payload.len() != 1 {
-        return bad_record(session);
+        return bad_record(rt, session);
     }
     match by_number::function_of(payload[0]) {
-        Chosen::Sponge(function) => fresh_sponge(session, function),
+        Chosen::Sponge(function) => fresh_sponge(rt, session, function),
         Chosen::Kt(function) => {
             fresh_kt(
+                rt,
                 session,
                 Chosen::Kt(function),
                 functions::kt::fresh(function),
             )
         }
-        Chosen::Journal => fresh_kt(session, Chosen::Journal, Journal::fresh().run),
-        Chosen::Keyed(_) | Chosen::Nothing => bad_record(session),
+        Chosen::Journal => fresh_kt(rt, session, Chosen::Journal, Journal::fresh().run),
+        Chosen::Keyed(_) | Chosen::Nothing => bad_record(rt, session),
     }
 }
 

@@ -5,7 +5,7 @@ use crate::session::Session;
 use crate::{field, line, number, session};
 use functions::Function;
 use hasher::{Answer, Run};
-use libc::STDOUT_FILENO;
+use std::io;
 
 fn with_run(session: Session, run: Run) -> Session {
     let mut next = session;
@@ -13,82 +13,98 @@ fn with_run(session: Session, run: Run) -> Session {
     next
 }
 
-// The run that a call handed back is in hand, and its line was written or not.
-fn with_answer(session: Session, answer: Answer, is_written: bool) -> Session {
+// The run that a call handed back is in hand.
+fn with_answer(session: Session, answer: Answer) -> Session {
     let run = answer.run;
-    session::after_line(with_run(session, run), is_written)
+    with_run(session, run)
 }
 
-fn answered(session: Session, answer: Answer) -> Session {
-    with_answer(session, answer, line::write_status(answer.status))
+fn answered(rt: &impl Print, session: Session, answer: Answer) -> io::Result<Session> {
+    line::write_status(rt, answer.status)?;
+    Ok(with_answer(session, answer))
 }
 
 // A domain byte where the function has one, else nothing.
-fn finalize(session: Session, function: Function, payload: &[u8]) -> Session {
+fn finalize(
+    rt: &impl Print,
+    session: Session,
+    function: Function,
+    payload: &[u8],
+) -> io::Result<Session> {
     let given = session.run;
     if function.domain {
         if payload.len() != 1 {
-            return session::bad_record(session);
+            return session::bad_record(rt, session);
         }
-        return answered(session, functions::finalize(function, given, payload[0]));
+        return answered(
+            rt,
+            session,
+            functions::finalize(function, given, payload[0]),
+        );
     }
     if payload.len() != 0 {
-        return session::bad_record(session);
+        return session::bad_record(rt, session);
     }
-    answered(session, functions::finalize(function, given, 0))
+    answered(rt, session, functions::finalize(function, given, 0))
 }
 
-fn set(session: Session, payload: &[u8]) -> Session {
+fn set(rt: &impl Print, session: Session, payload: &[u8]) -> io::Result<Session> {
     if payload.len() != 9 {
-        return session::bad_record(session);
+        return session::bad_record(rt, session);
     }
     let given = session.run;
     let written = field::write(given, payload[0], number::of_eight(payload, 1));
     if !written.is_done {
-        return session::bad_record(session);
+        return session::bad_record(rt, session);
     }
     let run = written.run;
-    session::after_line(
-        with_run(session, run),
-        io::write_all(STDOUT_FILENO, b"set\n"),
-    )
+    println!(rt; "set")?;
+    Ok(with_run(session, run))
 }
 
-fn dump(session: Session, payload: &[u8], text: &mut [u8]) -> Session
+fn dump(rt: &impl Print, session: Session, payload: &[u8], text: &mut [u8]) -> io::Result<Session>
     requires { 496 ≤ length text.old }
 {
     if payload.len() != 0 {
-        return session::bad_record(session);
+        return session::bad_record(rt, session);
     }
     let run = session.run;
-    session::after_line(session, line::write_run(run, text))
+    line::write_run(rt, run, text)?;
+    Ok(session)
 }
 
 pub fn answer(
+    rt: &impl Print,
     session: Session,
     function: Function,
     op: u8,
     payload: &[u8],
     text: &mut [u8],
-) -> Session
+) -> io::Result<Session>
     requires { 496 ≤ length text.old }
 {
     let given = session.run;
     match op {
-        b'A' => answered(session, functions::absorb(function, given, payload)),
-        b'F' => finalize(session, function, payload),
-        b'S' => set(session, payload),
-        b'D' => dump(session, payload, text),
-        _ => session::bad_record(session),
+        b'A' => answered(rt, session, functions::absorb(function, given, payload)),
+        b'F' => finalize(rt, session, function, payload),
+        b'S' => set(rt, session, payload),
+        b'D' => dump(rt, session, payload, text),
+        _ => session::bad_record(rt, session),
     }
 }
 
-pub fn squeeze(session: Session, function: Function, out: &mut [u8], text: &mut [u8]) -> Session
+pub fn squeeze(
+    rt: &impl Print,
+    session: Session,
+    function: Function,
+    out: &mut [u8],
+    text: &mut [u8],
+) -> io::Result<Session>
     requires { 2 * length out.old + 2 ≤ length text.old }
 {
     session::fill(out);
     let given = session.run;
     let answer = functions::squeeze(function, given, out);
-    let is_written = line::write_output(answer.status, out, text);
-    with_answer(session, answer, is_written)
+    line::write_output(rt, answer.status, out, text)?;
+    Ok(with_answer(session, answer))
 }

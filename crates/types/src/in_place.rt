@@ -4,6 +4,7 @@ ghost use Rattle.std.specs.Prelude.{◌≤◌, length};
 use crate::line::Statuses;
 use crate::{BEFORE, DOMAIN, line};
 use fips202::{Sha3_224, Sha3_256, Sha3_384, Sha3_512, Shake128, Shake256};
+use std::io;
 use turboshake::{TurboShake128, TurboShake256};
 
 fn turboshake128(a: &[u8], b: &[u8], x: &mut [u8], y: &mut [u8], z: &mut [u8]) -> Statuses {
@@ -198,95 +199,95 @@ fn shake256(a: &[u8], b: &[u8], x: &mut [u8], y: &mut [u8], z: &mut [u8]) -> Sta
     }
 }
 
-fn write_turboshake128(message: &[u8]) -> bool
+fn write_turboshake128(rt: &impl Print, message: &[u8]) -> io::Result<()>
     requires { 67 ≤ length message.now }
 {
     let mut x = [BEFORE; 10];
     let mut y = [BEFORE; 22];
     let mut z = [BEFORE; 1];
     let run = turboshake128(&message[0..67], &message[67..], &mut x, &mut y, &mut z);
-    line::write_run(b"TurboSHAKE128", run, &x, &y, &z)
+    line::write_run(rt, "TurboSHAKE128", run, &x, &y, &z)
 }
 
-fn write_turboshake256(message: &[u8]) -> bool
+fn write_turboshake256(rt: &impl Print, message: &[u8]) -> io::Result<()>
     requires { 67 ≤ length message.now }
 {
     let mut x = [BEFORE; 10];
     let mut y = [BEFORE; 54];
     let mut z = [BEFORE; 1];
     let run = turboshake256(&message[0..67], &message[67..], &mut x, &mut y, &mut z);
-    line::write_run(b"TurboSHAKE256", run, &x, &y, &z)
+    line::write_run(rt, "TurboSHAKE256", run, &x, &y, &z)
 }
 
-fn write_sha3_224(message: &[u8]) -> bool
+fn write_sha3_224(rt: &impl Print, message: &[u8]) -> io::Result<()>
     requires { 67 ≤ length message.now }
 {
     let mut x = [BEFORE; 10];
     let mut y = [BEFORE; 18];
     let mut z = [BEFORE; 1];
     let run = sha3_224(&message[0..67], &message[67..], &mut x, &mut y, &mut z);
-    line::write_run(b"SHA3-224", run, &x, &y, &z)
+    line::write_run(rt, "SHA3-224", run, &x, &y, &z)
 }
 
-fn write_sha3_256(message: &[u8]) -> bool
+fn write_sha3_256(rt: &impl Print, message: &[u8]) -> io::Result<()>
     requires { 67 ≤ length message.now }
 {
     let mut x = [BEFORE; 10];
     let mut y = [BEFORE; 22];
     let mut z = [BEFORE; 1];
     let run = sha3_256(&message[0..67], &message[67..], &mut x, &mut y, &mut z);
-    line::write_run(b"SHA3-256", run, &x, &y, &z)
+    line::write_run(rt, "SHA3-256", run, &x, &y, &z)
 }
 
-fn write_sha3_384(message: &[u8]) -> bool
+fn write_sha3_384(rt: &impl Print, message: &[u8]) -> io::Result<()>
     requires { 67 ≤ length message.now }
 {
     let mut x = [BEFORE; 10];
     let mut y = [BEFORE; 38];
     let mut z = [BEFORE; 1];
     let run = sha3_384(&message[0..67], &message[67..], &mut x, &mut y, &mut z);
-    line::write_run(b"SHA3-384", run, &x, &y, &z)
+    line::write_run(rt, "SHA3-384", run, &x, &y, &z)
 }
 
-fn write_sha3_512(message: &[u8]) -> bool
+fn write_sha3_512(rt: &impl Print, message: &[u8]) -> io::Result<()>
     requires { 67 ≤ length message.now }
 {
     let mut x = [BEFORE; 10];
     let mut y = [BEFORE; 54];
     let mut z = [BEFORE; 1];
     let run = sha3_512(&message[0..67], &message[67..], &mut x, &mut y, &mut z);
-    line::write_run(b"SHA3-512", run, &x, &y, &z)
+    line::write_run(rt, "SHA3-512", run, &x, &y, &z)
 }
 
-fn write_shake128(message: &[u8]) -> bool
+fn write_shake128(rt: &impl Print, message: &[u8]) -> io::Result<()>
     requires { 67 ≤ length message.now }
 {
     let mut x = [BEFORE; 10];
     let mut y = [BEFORE; 22];
     let mut z = [BEFORE; 1];
     let run = shake128(&message[0..67], &message[67..], &mut x, &mut y, &mut z);
-    line::write_run(b"SHAKE128", run, &x, &y, &z)
+    line::write_run(rt, "SHAKE128", run, &x, &y, &z)
 }
 
-fn write_shake256(message: &[u8]) -> bool
+fn write_shake256(rt: &impl Print, message: &[u8]) -> io::Result<()>
     requires { 67 ≤ length message.now }
 {
     let mut x = [BEFORE; 10];
     let mut y = [BEFORE; 54];
     let mut z = [BEFORE; 1];
     let run = shake256(&message[0..67], &message[67..], &mut x, &mut y, &mut z);
-    line::write_run(b"SHAKE256", run, &x, &y, &z)
+    line::write_run(rt, "SHAKE256", run, &x, &y, &z)
 }
 
-pub fn write_runs(message: &[u8]) -> bool
+pub fn write_runs(rt: &impl Print, message: &[u8]) -> io::Result<()>
     requires { 67 ≤ length message.now }
 {
-    write_turboshake128(message)
-        && write_turboshake256(message)
-        && write_sha3_224(message)
-        && write_sha3_256(message)
-        && write_sha3_384(message)
-        && write_sha3_512(message)
-        && write_shake128(message)
-        && write_shake256(message)
+    write_turboshake128(rt, message)?;
+    write_turboshake256(rt, message)?;
+    write_sha3_224(rt, message)?;
+    write_sha3_256(rt, message)?;
+    write_sha3_384(rt, message)?;
+    write_sha3_512(rt, message)?;
+    write_shake128(rt, message)?;
+    write_shake256(rt, message)
 }

@@ -10,6 +10,7 @@ mod line;
 ghost use Rattle.std.specs.Prelude.{◌≤◌, length};
 
 use fips202::{Sha3_224, Sha3_256, Sha3_384, Sha3_512, Shake128, Shake256};
+use std::io;
 use turboshake::{TurboShake128, TurboShake256};
 
 // TurboSHAKE's domain byte.
@@ -25,7 +26,7 @@ fn fill(message: &mut [u8]) {
     }
 }
 
-fn write_turboshake128(message: &[u8]) -> bool
+fn write_turboshake128(rt: &impl Print, message: &[u8]) -> io::Result<()>
     requires { 67 ≤ length message.now }
 {
     let mut x = [BEFORE; 10];
@@ -37,7 +38,8 @@ fn write_turboshake128(message: &[u8]) -> bool
     let hashed = TurboShake128::hash(message, DOMAIN, &mut one);
     let longer = TurboShake128::hash(message, DOMAIN, &mut long);
     line::write_line(
-        b"TurboSHAKE128",
+        rt,
+        "TurboSHAKE128",
         run,
         hashed,
         longer,
@@ -49,7 +51,7 @@ fn write_turboshake128(message: &[u8]) -> bool
     )
 }
 
-fn write_turboshake256(message: &[u8]) -> bool
+fn write_turboshake256(rt: &impl Print, message: &[u8]) -> io::Result<()>
     requires { 67 ≤ length message.now }
 {
     let mut x = [BEFORE; 10];
@@ -61,7 +63,8 @@ fn write_turboshake256(message: &[u8]) -> bool
     let hashed = TurboShake256::hash(message, DOMAIN, &mut one);
     let longer = TurboShake256::hash(message, DOMAIN, &mut long);
     line::write_line(
-        b"TurboSHAKE256",
+        rt,
+        "TurboSHAKE256",
         run,
         hashed,
         longer,
@@ -73,7 +76,7 @@ fn write_turboshake256(message: &[u8]) -> bool
     )
 }
 
-fn write_sha3_224(message: &[u8]) -> bool
+fn write_sha3_224(rt: &impl Print, message: &[u8]) -> io::Result<()>
     requires { 67 ≤ length message.now }
 {
     let mut x = [BEFORE; 10];
@@ -84,10 +87,10 @@ fn write_sha3_224(message: &[u8]) -> bool
     let run = by_value::sha3_224(&message[0..67], &message[67..], &mut x, &mut y, &mut z);
     let hashed = Sha3_224::hash(message, &mut one);
     let longer = Sha3_224::hash(message, &mut long);
-    line::write_line(b"SHA3-224", run, hashed, longer, &x, &y, &z, &one, &long)
+    line::write_line(rt, "SHA3-224", run, hashed, longer, &x, &y, &z, &one, &long)
 }
 
-fn write_sha3_256(message: &[u8]) -> bool
+fn write_sha3_256(rt: &impl Print, message: &[u8]) -> io::Result<()>
     requires { 67 ≤ length message.now }
 {
     let mut x = [BEFORE; 10];
@@ -98,10 +101,10 @@ fn write_sha3_256(message: &[u8]) -> bool
     let run = by_value::sha3_256(&message[0..67], &message[67..], &mut x, &mut y, &mut z);
     let hashed = Sha3_256::hash(message, &mut one);
     let longer = Sha3_256::hash(message, &mut long);
-    line::write_line(b"SHA3-256", run, hashed, longer, &x, &y, &z, &one, &long)
+    line::write_line(rt, "SHA3-256", run, hashed, longer, &x, &y, &z, &one, &long)
 }
 
-fn write_sha3_384(message: &[u8]) -> bool
+fn write_sha3_384(rt: &impl Print, message: &[u8]) -> io::Result<()>
     requires { 67 ≤ length message.now }
 {
     let mut x = [BEFORE; 10];
@@ -112,10 +115,10 @@ fn write_sha3_384(message: &[u8]) -> bool
     let run = by_value::sha3_384(&message[0..67], &message[67..], &mut x, &mut y, &mut z);
     let hashed = Sha3_384::hash(message, &mut one);
     let longer = Sha3_384::hash(message, &mut long);
-    line::write_line(b"SHA3-384", run, hashed, longer, &x, &y, &z, &one, &long)
+    line::write_line(rt, "SHA3-384", run, hashed, longer, &x, &y, &z, &one, &long)
 }
 
-fn write_sha3_512(message: &[u8]) -> bool
+fn write_sha3_512(rt: &impl Print, message: &[u8]) -> io::Result<()>
     requires { 67 ≤ length message.now }
 {
     let mut x = [BEFORE; 10];
@@ -126,10 +129,10 @@ fn write_sha3_512(message: &[u8]) -> bool
     let run = by_value::sha3_512(&message[0..67], &message[67..], &mut x, &mut y, &mut z);
     let hashed = Sha3_512::hash(message, &mut one);
     let longer = Sha3_512::hash(message, &mut long);
-    line::write_line(b"SHA3-512", run, hashed, longer, &x, &y, &z, &one, &long)
+    line::write_line(rt, "SHA3-512", run, hashed, longer, &x, &y, &z, &one, &long)
 }
 
-fn write_shake128(message: &[u8]) -> bool
+fn write_shake128(rt: &impl Print, message: &[u8]) -> io::Result<()>
     requires { 67 ≤ length message.now }
 {
     let mut x = [BEFORE; 10];
@@ -140,10 +143,10 @@ fn write_shake128(message: &[u8]) -> bool
     let run = by_value::shake128(&message[0..67], &message[67..], &mut x, &mut y, &mut z);
     let hashed = Shake128::hash(message, &mut one);
     let longer = Shake128::hash(message, &mut long);
-    line::write_line(b"SHAKE128", run, hashed, longer, &x, &y, &z, &one, &long)
+    line::write_line(rt, "SHAKE128", run, hashed, longer, &x, &y, &z, &one, &long)
 }
 
-fn write_shake256(message: &[u8]) -> bool
+fn write_shake256(rt: &impl Print, message: &[u8]) -> io::Result<()>
     requires { 67 ≤ length message.now }
 {
     let mut x = [BEFORE; 10];
@@ -154,26 +157,25 @@ fn write_shake256(message: &[u8]) -> bool
     let run = by_value::shake256(&message[0..67], &message[67..], &mut x, &mut y, &mut z);
     let hashed = Shake256::hash(message, &mut one);
     let longer = Shake256::hash(message, &mut long);
-    line::write_line(b"SHAKE256", run, hashed, longer, &x, &y, &z, &one, &long)
+    line::write_line(rt, "SHAKE256", run, hashed, longer, &x, &y, &z, &one, &long)
 }
 
-fn write_runs(message: &[u8]) -> bool
+fn write_runs(rt: &impl Print, message: &[u8]) -> io::Result<()>
     requires { 67 ≤ length message.now }
 {
-    write_turboshake128(message)
-        && write_turboshake256(message)
-        && write_sha3_224(message)
-        && write_sha3_256(message)
-        && write_sha3_384(message)
-        && write_sha3_512(message)
-        && write_shake128(message)
-        && write_shake256(message)
+    write_turboshake128(rt, message)?;
+    write_turboshake256(rt, message)?;
+    write_sha3_224(rt, message)?;
+    write_sha3_256(rt, message)?;
+    write_sha3_384(rt, message)?;
+    write_sha3_512(rt, message)?;
+    write_shake128(rt, message)?;
+    write_shake256(rt, message)
 }
 
-fn main() {
+fn main(rt: HostRuntime) -> io::Result<()> {
     let mut message = [0u8; 200];
     fill(&mut message);
-    if write_runs(&message) {
-        in_place::write_runs(&message);
-    }
+    write_runs(&rt, &message)?;
+    in_place::write_runs(&rt, &message)
 }

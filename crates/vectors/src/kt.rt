@@ -4,8 +4,8 @@ ghost use Rattle.std.specs.Prelude.{◌<◌, ◌≤◌, length};
 use crate::{LONGEST, PIECE, fill, least, write_answer, write_kind};
 use functions::kt::{KtAnswer, KtFunction};
 use kangarootwelve::Run;
-use libc::STDOUT_FILENO;
 use sponge::status::DONE;
+use std::io;
 
 // The vectors that follow the powers of 17: whether the message is of FF bytes, its length, and the customization string's.
 const ARE_FF: [bool; 8] = [false, true, true, true, false, false, false, false];
@@ -120,63 +120,64 @@ fn digest_in_one_go(vector: KtVector, customization: &[u8], out: &mut [u8]) -> u
     functions::kt::hash(function, &buffer[0..n], customization, out)
 }
 
-fn write_name(function: KtFunction) -> bool {
+fn write_name(rt: &impl Print, function: KtFunction) -> io::Result<()> {
     match function {
-        KtFunction::Kt128 => io::write_all(STDOUT_FILENO, b"KT128 "),
-        KtFunction::Kt256 => io::write_all(STDOUT_FILENO, b"KT256 "),
+        KtFunction::Kt128 => print!(rt; "KT128 "),
+        KtFunction::Kt256 => print!(rt; "KT256 "),
     }
 }
 
-// Writes the number and a space.
-fn write_number(n: usize) -> bool {
-    io::print_decimal(STDOUT_FILENO, n as u64) && io::write_all(STDOUT_FILENO, b" ")
-}
-
 // What was asked, up to the space before the digest.
-fn write_asked(vector: KtVector, customization: usize) -> bool {
+fn write_asked(rt: &impl Print, vector: KtVector, customization: usize) -> io::Result<()> {
     let function = vector.function;
-    write_name(function)
-        && write_kind(vector.is_ff)
-        && write_number(vector.length)
-        && write_number(customization)
-        && write_number(vector.asked)
+    write_name(rt, function)?;
+    write_kind(rt, vector.is_ff)?;
+    print!(rt; "{} {customization} {} ", vector.length, vector.asked)
 }
 
 // Writes what was asked, and the digest by a finalize.
-fn write_digest(vector: KtVector, customization: &[u8]) -> bool
+fn write_digest(rt: &impl Print, vector: KtVector, customization: &[u8]) -> io::Result<()>
     requires { vector.asked ≤ 10064 }
 {
     let mut buffer = [0u8; 10064];
     let asked = vector.asked;
     let out = &mut buffer[0..asked];
     let status = digest(vector, customization, out);
-    write_asked(vector, customization.len()) && write_answer(status, out)
+    write_asked(rt, vector, customization.len())?;
+    write_answer(rt, status, out)
 }
 
 // Writes a space and the digest by pieces, in a buffer that no other call wrote to.
-fn write_by_pieces(vector: KtVector, customization: &[u8]) -> bool
+fn write_by_pieces(rt: &impl Print, vector: KtVector, customization: &[u8]) -> io::Result<()>
     requires { vector.asked ≤ 64 }
 {
     let mut buffer = [0u8; 64];
     let asked = vector.asked;
     let out = &mut buffer[0..asked];
     let status = digest_by_pieces(vector, customization, out);
-    io::write_all(STDOUT_FILENO, b" ") && write_answer(status, out)
+    print!(rt; " ")?;
+    write_answer(rt, status, out)
 }
 
 // The same in one go.
-fn write_in_one_go(vector: KtVector, customization: &[u8]) -> bool
+fn write_in_one_go(rt: &impl Print, vector: KtVector, customization: &[u8]) -> io::Result<()>
     requires { vector.asked ≤ 64 }
 {
     let mut buffer = [0u8; 64];
     let asked = vector.asked;
     let out = &mut buffer[0..asked];
     let status = digest_in_one_go(vector, customization, out);
-    io::write_all(STDOUT_FILENO, b" ") && write_answer(status, out)
+    print!(rt; " ")?;
+    write_answer(rt, status, out)
 }
 
 // A message of ptn, with no customization string.
-fn write_pattern(function: KtFunction, length: usize, asked: usize) -> bool
+fn write_pattern(
+    rt: &impl Print,
+    function: KtFunction,
+    length: usize,
+    asked: usize,
+) -> io::Result<()>
     requires { asked ≤ 10064 }
 {
     let customization = [0u8; 0];
@@ -186,25 +187,30 @@ fn write_pattern(function: KtFunction, length: usize, asked: usize) -> bool
         length,
         asked,
     };
-    write_digest(vector, &customization) && io::write_all(STDOUT_FILENO, b"\n")
+    write_digest(rt, vector, &customization)?;
+    println!(rt)
 }
 
 // The messages ptn(17**0) to ptn(17**6).
-fn write_powers(function: KtFunction, asked: usize) -> bool
+fn write_powers(rt: &impl Print, function: KtFunction, asked: usize) -> io::Result<()>
     requires { asked ≤ 10064 }
 {
     let mut length: usize = 1;
     while length <= LONGEST {
-        if !write_pattern(function, length, asked) {
-            return false;
-        }
+        write_pattern(rt, function, length, asked)?;
         length *= 17;
     }
-    true
+    Ok(())
 }
 
 // The i-th vector that follows, its digest three times.
-fn write_customized(function: KtFunction, i: usize, asked: usize, pattern: &[u8]) -> bool
+fn write_customized(
+    rt: &impl Print,
+    function: KtFunction,
+    i: usize,
+    asked: usize,
+    pattern: &[u8],
+) -> io::Result<()>
     requires { (i < 8) × (asked ≤ 64) }
 {
     let vector = KtVector {
@@ -215,38 +221,44 @@ fn write_customized(function: KtFunction, i: usize, asked: usize, pattern: &[u8]
     };
     let k = least(CUSTOMIZATIONS[i], pattern.len());
     let customization = &pattern[0..k];
-    write_digest(vector, customization)
-        && write_by_pieces(vector, customization)
-        && write_in_one_go(vector, customization)
-        && io::write_all(STDOUT_FILENO, b"\n")
+    write_digest(rt, vector, customization)?;
+    write_by_pieces(rt, vector, customization)?;
+    write_in_one_go(rt, vector, customization)?;
+    println!(rt)
 }
 
-fn write_all_customized(function: KtFunction, asked: usize, pattern: &[u8]) -> bool
+fn write_all_customized(
+    rt: &impl Print,
+    function: KtFunction,
+    asked: usize,
+    pattern: &[u8],
+) -> io::Result<()>
     requires { asked ≤ 64 }
 {
-    let mut i: usize = 0;
-    while i < 8 {
-        if !write_customized(function, i, asked, pattern) {
-            return false;
-        }
-        i += 1;
+    for i in 0..8 {
+        write_customized(rt, function, i, asked, pattern)?;
     }
-    true
+    Ok(())
 }
 
-fn write_function(function: KtFunction, asked: usize, pattern: &[u8]) -> bool
+fn write_function(
+    rt: &impl Print,
+    function: KtFunction,
+    asked: usize,
+    pattern: &[u8],
+) -> io::Result<()>
     requires { asked ≤ 64 }
 {
-    write_pattern(function, 0, asked)
-        && write_pattern(function, 0, 2 * asked)
-        && write_pattern(function, 0, 10000 + asked)
-        && write_powers(function, asked)
-        && write_all_customized(function, asked, pattern)
+    write_pattern(rt, function, 0, asked)?;
+    write_pattern(rt, function, 0, 2 * asked)?;
+    write_pattern(rt, function, 0, 10000 + asked)?;
+    write_powers(rt, function, asked)?;
+    write_all_customized(rt, function, asked, pattern)
 }
 
-pub fn write_vectors() -> bool {
+pub fn write_vectors(rt: &impl Print) -> io::Result<()> {
     let mut pattern = [0u8; 68921];
     fill(&mut pattern, false);
-    write_function(KtFunction::Kt128, 32, &pattern)
-        && write_function(KtFunction::Kt256, 64, &pattern)
+    write_function(rt, KtFunction::Kt128, 32, &pattern)?;
+    write_function(rt, KtFunction::Kt256, 64, &pattern)
 }

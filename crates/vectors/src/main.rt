@@ -10,8 +10,9 @@ ghost use Rattle.std.specs.Prelude.{◌≡◌, ◌≤◌, min, length};
 
 use functions::Function;
 use hasher::{Answer, Run};
-use libc::STDOUT_FILENO;
 use sponge::status::DONE;
+use std::io;
+use std::io::ErrorKind;
 use turboshake::TurboShake128;
 
 // The longest piece of a message: 32 times the pattern, so that the next piece begins with 00 again.
@@ -102,42 +103,37 @@ fn digest(vector: Vector, out: &mut [u8]) -> u8 {
     squeeze_output(function, run, out)
 }
 
-fn write_name(function: Function) -> bool {
+fn write_name(rt: &impl Print, function: Function) -> io::Result<()> {
     if function.rate == TurboShake128::RATE {
-        return io::write_all(STDOUT_FILENO, b"TurboSHAKE128 ");
+        return print!(rt; "TurboSHAKE128 ");
     }
-    io::write_all(STDOUT_FILENO, b"TurboSHAKE256 ")
+    print!(rt; "TurboSHAKE256 ")
 }
 
-fn write_kind(is_ff: bool) -> bool {
+fn write_kind(rt: &impl Print, is_ff: bool) -> io::Result<()> {
     if is_ff {
-        io::write_all(STDOUT_FILENO, b"ff ")
+        print!(rt; "ff ")
     } else {
-        io::write_all(STDOUT_FILENO, b"ptn ")
+        print!(rt; "ptn ")
     }
 }
 
 // What was asked, up to the space before the digest.
-fn write_asked(vector: Vector) -> bool {
+fn write_asked(rt: &impl Print, vector: Vector) -> io::Result<()> {
     let function = vector.function;
-    write_name(function)
-        && write_kind(vector.is_ff)
-        && io::print_decimal(STDOUT_FILENO, vector.length as u64)
-        && io::write_all(STDOUT_FILENO, b" ")
-        && io::print_hex(STDOUT_FILENO, vector.domain as u64, 2)
-        && io::write_all(STDOUT_FILENO, b" ")
-        && io::print_decimal(STDOUT_FILENO, vector.asked as u64)
-        && io::write_all(STDOUT_FILENO, b" ")
+    write_name(rt, function)?;
+    write_kind(rt, vector.is_ff)?;
+    print!(rt; "{} {:02x} {} ", vector.length, vector.domain, vector.asked)
 }
 
 // Writes the digits of at most 128 bytes: the draft prints no more of an output.
-fn write_bytes(bytes: &[u8]) -> bool {
+fn write_bytes(rt: &impl Print, bytes: &[u8]) -> io::Result<()> {
     let mut text = [0u8; 256];
-    if !hex::put(&mut text, 0, bytes) {
-        return false;
+    if !hexadecimal::put(&mut text, 0, bytes) {
+        return Err(io::Error::from(ErrorKind::Other));
     }
     let end = 2 * bytes.len();
-    io::write_all(STDOUT_FILENO, &text[0..end])
+    rt.write_all(&text[0..end])
 }
 
 // The first byte that the draft prints: of a long output not the first 10,000.
@@ -147,60 +143,61 @@ fn first_printed(asked: usize) -> usize
     if 10000 < asked { 10000 } else { 0 }
 }
 
-fn write_answer(status: u8, out: &[u8]) -> bool {
+fn write_answer(rt: &impl Print, status: u8, out: &[u8]) -> io::Result<()> {
     if status != DONE {
-        return io::write_all(STDOUT_FILENO, b"status ")
-            && io::print_decimal(STDOUT_FILENO, status as u64);
+        return print!(rt; "status {status}");
     }
     let start = first_printed(out.len());
-    write_bytes(&out[start..])
+    write_bytes(rt, &out[start..])
 }
 
 // Writes the vector's line; `out` is as long as what is asked.
-fn write_line(vector: Vector, out: &mut [u8]) -> bool {
+fn write_line(rt: &impl Print, vector: Vector, out: &mut [u8]) -> io::Result<()> {
     let status = digest(vector, out);
-    write_asked(vector) && write_answer(status, out) && io::write_all(STDOUT_FILENO, b"\n")
+    write_asked(rt, vector)?;
+    write_answer(rt, status, out)?;
+    println!(rt)
 }
 
-fn write_vector(vector: Vector) -> bool
+fn write_vector(rt: &impl Print, vector: Vector) -> io::Result<()>
     requires { vector.asked ≤ 10032 }
 {
     let mut out = [0u8; 10032];
     let asked = vector.asked;
-    write_line(vector, &mut out[0..asked])
+    write_line(rt, vector, &mut out[0..asked])
 }
 
-fn write_pattern(function: Function, length: usize, asked: usize) -> bool
+fn write_pattern(rt: &impl Print, function: Function, length: usize, asked: usize) -> io::Result<()>
     requires { asked ≤ 10032 }
 {
-    write_vector(Vector {
-        function,
-        is_ff: false,
-        length,
-        domain: DOMAIN,
-        asked,
-    })
+    write_vector(
+        rt,
+        Vector {
+            function,
+            is_ff: false,
+            length,
+            domain: DOMAIN,
+            asked,
+        },
+    )
 }
 
 // The messages ptn(17**0) to ptn(17**6).
-fn write_powers(function: Function, asked: usize) -> bool
+fn write_powers(rt: &impl Print, function: Function, asked: usize) -> io::Result<()>
     requires { asked ≤ 10032 }
 {
     let mut length: usize = 1;
     while length <= LONGEST {
-        if !write_pattern(function, length, asked) {
-            return false;
-        }
+        write_pattern(rt, function, length, asked)?;
         length *= 17;
     }
-    true
+    Ok(())
 }
 
-fn write_ff(function: Function, asked: usize) -> bool
+fn write_ff(rt: &impl Print, function: Function, asked: usize) -> io::Result<()>
     requires { asked ≤ 10032 }
 {
-    let mut i: usize = 0;
-    while i < 6 {
+    for i in 0..6 {
         let vector = Vector {
             function,
             is_ff: true,
@@ -208,28 +205,23 @@ fn write_ff(function: Function, asked: usize) -> bool
             domain: FF_DOMAINS[i],
             asked,
         };
-        if !write_vector(vector) {
-            return false;
-        }
-        i += 1;
+        write_vector(rt, vector)?;
     }
-    true
+    Ok(())
 }
 
-fn write_vectors(function: Function, asked: usize) -> bool
+fn write_vectors(rt: &impl Print, function: Function, asked: usize) -> io::Result<()>
     requires { asked ≤ 10032 }
 {
-    write_pattern(function, 0, 64)
-        && write_pattern(function, 0, 10032)
-        && write_powers(function, asked)
-        && write_ff(function, asked)
+    write_pattern(rt, function, 0, 64)?;
+    write_pattern(rt, function, 0, 10032)?;
+    write_powers(rt, function, asked)?;
+    write_ff(rt, function, asked)
 }
 
-fn main() {
-    if write_pattern(functions::turboshake128(), 0, 32)
-        && write_vectors(functions::turboshake128(), 32)
-        && write_vectors(functions::turboshake256(), 64)
-    {
-        kt::write_vectors();
-    }
+fn main(rt: HostRuntime) -> io::Result<()> {
+    write_pattern(&rt, functions::turboshake128(), 0, 32)?;
+    write_vectors(&rt, functions::turboshake128(), 32)?;
+    write_vectors(&rt, functions::turboshake256(), 64)?;
+    kt::write_vectors(&rt)
 }

@@ -9,7 +9,7 @@ use lib.Dec.{leb}
 use lib.ListN.{length, drop, get_or, set, drop_of_length-le}
 use lib.Seq.{sets, sets-eq, drop-cons}
 use borrow.Author.Tests.{le-leb, lt-leb}
-use Rattle.hex.specs.Hex.{digit, hex_of, with_hex}
+use Rattle.hexadecimal.specs.Hex.{digit, hex_of, with_hex}
 
 length_hex : (bytes : List ℕ) → length (hex_of bytes) ≡ 2 * length bytes
 length_hex [] = refl

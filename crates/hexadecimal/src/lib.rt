@@ -2,8 +2,8 @@
 #![tactic(auto)]
 
 ghost use Rattle.std.specs.Prelude.{◌≡◌, ◌+◌, ◌/◌, ◌%◌, ◌<◌, length, set};
-ghost use Rattle.hex.specs.Hex.{fits, with_hex};
-ghost use Rattle.hex.specs.Hex.{digit as Hex·digit};
+ghost use Rattle.hexadecimal.specs.Hex.{fits, with_hex};
+ghost use Rattle.hexadecimal.specs.Hex.{digit as Hex·digit};
 
 fn digit(d: u8) -> u8
     requires { d < 16 }

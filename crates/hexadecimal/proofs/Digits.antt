@@ -6,7 +6,7 @@ use mathlib.Core.Bool.{true}
 use Prim.Native.Nat.{ℕ, ◌+◌, ◌*◌, ◌≤◌}
 use borrow.Author.Tests.{le-leb}
 use lib.ListN.{length, take, drop}
-use Rattle.hex.specs.Hex.{hex_of, fits, with_hex}
+use Rattle.hexadecimal.specs.Hex.{hex_of, fits, with_hex}
 
 module _ (text : List ℕ) (at : ℕ) (bytes : List ℕ) (room : at + 2 * length bytes ≤ length text) where
   pub fits_room : fits (length text) at (length bytes) ≡ true
