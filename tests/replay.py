@@ -1,8 +1,8 @@
 """Writes lists of calls for the program `replay` and the lines that it must answer; runs it and compares.
 
 A record is one byte op, four bytes n, and n bytes of payload (none for R), numbers most significant first. The program does one call
-for each and writes one line. What the line must say is for transcript.py, model_run.py and one_go.py to decide. The program is target/bin/replay,
-or the one that the variable REPLAY names.
+for each and writes one line. What the line must say is for transcript.py, model_run.py and one_go.py to decide. The program is
+crates/replay/out/replay, which `rt ci` leaves, or the one that the variable REPLAY names.
 """
 import os
 import subprocess
@@ -15,10 +15,11 @@ from pathlib import Path
 import model_run
 import one_go
 import transcript
+from programs import program
 from sponge_functions import FIPS202, SPONGE, TURBOSHAKE
 from transcript import KT, NOT_REACHED
 
-PROGRAM = Path(os.environ.get("REPLAY") or Path(__file__).resolve().parent.parent / "target/bin/replay")
+PROGRAM = Path(os.environ.get("REPLAY") or program("replay"))
 SEED = 20  # of every random list
 MOST = 262_144  # the length of the program's buffers
 BEFORE = b"\xa5"  # each byte of the buffer that a squeeze is given

@@ -1,5 +1,5 @@
 #!/usr/bin/env python3
-"""Runs every comparison of tests/ and ends with 'N passed, M failed'. Some read what `rt check` or `rt ci` left in target/: run one first.
+"""Runs every comparison of tests/ and ends with 'N passed, M failed'. Some run the programs that `rt ci` leaves, or read what these wrote: run it first.
 
 Each file of tests is a process of its own, as many at a time as there are processors; its lines are printed once it has ended. A test that
 was skipped, for what it needs is not installed, is neither passed nor failed; a line before the last one says which, and why.
@@ -37,7 +37,7 @@ def run(name):
 
 if __name__ == "__main__":
     # the longest first
-    names = sorted((path.name for path in FOLDER.glob("test_*.py")), key=lambda name: (name != "test_digest.py", name))
+    names = sorted((path.name for path in FOLDER.glob("test_*.py")), key=lambda name: (name not in ("test_digest.py", "test_must_fail.py"), name))
     passed, failed, skipped = 0, 0, []
     with ProcessPoolExecutor(os.cpu_count()) as pool:
         for name, (lines, good, bad, not_run) in zip(names, pool.map(run, names)):

@@ -4,7 +4,7 @@
   slow_digest.py                    the line is the one that bench/kt128sum.rs, KT128 in ordinary Rust, writes for the same bytes
   slow_digest.py Slow.by_python     the line is the second program's too, which takes some minutes more
 
-Needs target/bin/digest, which `rt check` and `rt ci` leave, and rustc.
+Needs crates/digest/out/digest, which `rt ci` leaves, and rustc.
 """
 import subprocess
 import tempfile

@@ -4,6 +4,7 @@ docs/PROOFS.md, from a run of the gate.
 
     tests/tables.py write [LOG]     puts the first two into their pages, and the third too where LOG is given, what a gate printed
     tests/tables.py times FOLDER    prints the third; the gate does so, with the folder of what its parts printed
+    tests/tables.py clock FILE      passes on what it reads, and writes it to FILE, each line behind the seconds at which it came
 
 test_tables.py holds the first two to the tree.
 """
@@ -11,12 +12,13 @@ import os
 import re
 import subprocess
 import sys
+import time
 from pathlib import Path
 
 ROOT = Path(__file__).resolve().parent.parent
 PROOFS, EDITS = ROOT / "docs/PROOFS.md", ROOT / "docs/EDITS.md"
-TRIED = {"from nothing": "must-fail/*.edit", "quick": "must-fail/quick/*.edit"}
-SLOWEST = 10
+# Answers and invariants of a function stand in a folder of its own.
+OF_FUNCTION = re.compile(r"proofs/(.*)/(?:Answers|Invariants)\.antt")
 
 
 def table(heads, rows):
@@ -26,9 +28,29 @@ def table(heads, rows):
     return "\n".join(row_lines) + "\n"
 
 
+def listed(root):
+    """The crates that crates.txt lists, in its order, and what each uses."""
+    return {name: used.split() for name, used in re.findall(r"^(\w+)(?: [^:#\n]*)?:([^#\n]*)", (root / "crates.txt").read_text(), re.MULTILINE)}
+
+
 def crates(root):
     """The crates that crates.txt lists, in its order."""
-    return re.findall(r"^(\w+):", (root / "crates.txt").read_text(), re.MULTILINE)
+    return list(listed(root))
+
+
+def below(root, name):
+    """A crate and those of the repository below it."""
+    found, left, uses = set(), [name], listed(root)
+    while left:
+        name = left.pop()
+        if name in uses and name not in found:
+            found.add(name)
+            left += uses[name]
+    return found
+
+
+def edits_of(crate):
+    return sorted(crate.glob("must-fail/*.edit"))
 
 
 def lines(folder, pattern):
@@ -40,21 +62,21 @@ def counts(root):
     rows = []
     for name in crates(root):
         crate = root / "crates" / name
-        whole, quick = (len(list(crate.glob(pattern))) for pattern in TRIED.values())
-        rows.append([name, lines(crate, "src/**/*.rt"), lines(crate, "specs/**/*.antt"), lines(crate, "proofs/**/*.antt"), whole, quick])
+        rows.append([name, lines(crate, "src/**/*.rt"), lines(crate, "specs/**/*.antt"), lines(crate, "proofs/**/*.antt"), len(edits_of(crate))])
     rows.append(["all", *map(sum, list(zip(*rows))[1:])])
     return (
         f"## Counts\n\nLines of every kind, with comments and blank lines; `tests/` has {lines(root / 'tests', '*.py'):,} lines of Python beside them. "
         "[EDITS.md](EDITS.md) says how an edit is tried.\n\n"
-        + table(["crate", "code", "specs", "proofs", "edits from nothing", "quick edits"], rows)
+        + table(["crate", "code", "specs", "proofs", "edits"], rows)
     )
 
 
 def place(words):
-    """Where an edit is refused first: the function and its need, or the file of proofs/ and the law."""
+    """Where an edit is refused first: the function and its goal, or the file of proofs/ and the law."""
     path, name = words.split(" ")
-    of = path.removeprefix("proofs/")
-    return f"`{of.removesuffix('/Proof.antt').replace('/', '::')}`: `{name}`" if of.endswith("/Proof.antt") else f"`{of}`: `{name}`"
+    function = OF_FUNCTION.fullmatch(path)
+    of = function[1].replace("/", "::") if function else path.removeprefix("proofs/")
+    return f"`{of}`: `{name}`"
 
 
 def edits(root):
@@ -62,13 +84,12 @@ def edits(root):
     text = "## The edits\n"
     for name in crates(root):
         rows = []
-        for how, pattern in TRIED.items():
-            for path in sorted((root / "crates" / name).glob(pattern)):
-                words = path.read_text()
-                first = re.search(r"^first error: (.*)$", words, re.MULTILINE).group(1)
-                rows.append([f"`{path.stem}`", how, words.split("\n", 1)[0].replace("|", "\\|"), place(first)])
+        for path in edits_of(root / "crates" / name):
+            words = path.read_text()
+            first = re.search(r"^first error: (.*)$", words, re.MULTILINE).group(1)
+            rows.append([f"`{path.stem}`", words.split("\n", 1)[0].replace("|", "\\|"), place(first)])
         if rows:
-            text += f"\nOf `crates/{name}`:\n\n" + table(["edit", "tried", "the wrong version", "refused first at"], rows)
+            text += f"\nOf `crates/{name}`:\n\n" + table(["edit", "the wrong version", "refused first at"], rows)
     return text
 
 
@@ -90,33 +111,35 @@ def commit(root):
         return "an unknown commit"
 
 
-def slowest(how, tried):
-    """A table of the slowest of the edits that were tried in one way."""
-    rows = [[name, round(float(took))] for name, took in sorted(tried, key=lambda edit: -float(edit[1]))[:SLOWEST]]
-    return table([f"the slowest of {len(tried)} edits, {how}", "seconds"], rows)
+def clock(file):
+    """Passes on what it reads; the file gets each line behind the seconds since the beginning."""
+    began = time.monotonic()
+    with open(file, "wb") as lines:
+        for line in sys.stdin.buffer:
+            sys.stdout.buffer.write(line)
+            sys.stdout.buffer.flush()
+            lines.write(b"%.1f %b" % (time.monotonic() - began, line))
 
 
 def times(folder):
-    """The section on a run of the gate. `folder` has what each part printed, and a line for each in the file `parts`."""
+    """The section on a run of the gate. `folder` has what the part `proofs` printed, by the clock, and a line for each part in the file `parts`.
+
+    rt tells no times: of a crate it is told here when rt said that it is proved, or that an earlier run on this machine had proved it."""
     parts = [line.split() for line in (folder / "parts").read_text().splitlines()]
-    proofs, edits = ((folder / name).read_text() for name in ("proofs", "edits"))
+    proofs = (folder / "proofs.clock").read_text(errors="replace")
     total = sum(int(took) for *_, took in parts)
     passed, failed = (sum(int(part[i]) for part in parts) for i in (1, 2))
-    proved = re.findall(r"^rt: (\w+) proved \((\d+) s\)$", proofs, re.MULTILINE)
-    whole = re.findall(r"^rt: must-fail (\S+): .*?(\d+) s\)$", proofs, re.MULTILINE)
-    quick = re.findall(r"^(\w+/\w+): .* \(([0-9.]+) s\)$", edits, re.MULTILINE)
-    told, due = [len(proved), len(whole), len(quick)], [len(crates(ROOT)), *(len(list(ROOT.glob(f"crates/*/{pattern}"))) for pattern in TRIED.values())]
+    proved = re.findall(r"^([0-9.]+) rt: (\w+) (?:proved$|is (kept): an earlier run)", proofs, re.MULTILINE)
+    tried = re.findall(r"^[0-9.]+ rt: must-fail (\S+)\.edit: refused", proofs, re.MULTILINE)
+    told, due = [len(proved), len(tried)], [len(crates(ROOT)), len(list(ROOT.glob("crates/*/must-fail/*.edit")))]
     if not failed and told != due:
-        raise SystemExit(f"the parts tell the times of {told} crates, edits from nothing and quick edits, and there are {due}")
+        raise SystemExit(f"rt tells of {told} crates and edits, and there are {due}")
     return (
-        f"## Check times\n\nOne run of the gate on {commit(ROOT)}, {machine()}: {passed} passed, {failed} failed, {total // 60} min {total % 60} s.\n\n"
+        f"## Check times\n\nOne run of the gate on {commit(ROOT)}, {machine()}: {passed} passed, {failed} failed, {total // 60} min {total % 60} s. "
+        f"{len(tried)} wrong versions were refused.\n\n"
         + table(["part", "passed", "failed", "seconds"], [[name, *map(int, numbers)] for name, *numbers in parts])
         + "\n"
-        + table(["crate, from nothing", "seconds"], [[name, int(took)] for name, took in proved])
-        + "\n"
-        + slowest("from nothing", whole)
-        + "\n"
-        + slowest("quick", quick)
+        + table(["crate", "proved after seconds"], [[name, "kept from an earlier run" if kept else round(float(at))] for at, name, kept in proved])
     )
 
 
@@ -142,6 +165,8 @@ def write(log):
 if __name__ == "__main__":
     if len(sys.argv) == 3 and sys.argv[1] == "times":
         print(times(Path(sys.argv[2])))
+    elif len(sys.argv) == 3 and sys.argv[1] == "clock":
+        clock(sys.argv[2])
     elif len(sys.argv) in (2, 3) and sys.argv[1] == "write":
         write(Path(sys.argv[2]).read_text() if sys.argv[2:] else None)
     else:

@@ -9,7 +9,7 @@ from pathlib import Path
 
 ROOT = Path(__file__).resolve().parent.parent
 PUBLIC = re.compile(
-    r'^ *pub (?:extern "C" )?fn (\w+)\(([^)]*)\)(?: -> ([^{\n]*[\w\]]))?((?:\n +(?:requires|ensures) \{[^\n]*\})*)(?: |\n *)\{$', re.MULTILINE
+    r'^ *pub (?:extern "C" )?fn (\w+)\(([^)]*)\)(?: -> ([^{\n]*[\w\]]))?((?:\n +(?:requires|ensures)\*?(?: \w+)? \{[^\n]*\})*)(?: |\n *)\{$', re.MULTILINE
 )
 
 
@@ -45,16 +45,22 @@ class Contracts(unittest.TestCase):
     def test_any_input(self):
         for where, _, _, clauses in self.functions:
             with self.subTest(function=where):
-                self.assertFalse([clause for clause in clauses if clause.split()[0] == "requires"])
+                self.assertFalse([clause for clause in clauses if clause.startswith("requires")])
+
+    def test_any_value(self):
+        """What a type's invariant says, every caller with a value of the type would owe."""
+        for file in ROOT.glob("crates/*/src/**/*.rt"):
+            with self.subTest(file=str(file.relative_to(ROOT))):
+                self.assertNotRegex(file.read_text(), r"\bghost invariant\b")
 
     def test_what_is_answered(self):
         for where, parameters, result, clauses in self.functions:
             with self.subTest(function=where):
-                equations = [clause.split(".", 1)[1] for clause in clauses if clause.split()[0] == "ensures" and "≡" in clause]
+                equations = [clause.split("{", 1)[1] for clause in clauses if clause.split()[0] == "ensures" and "≡" in clause]
                 if result:
-                    self.assertTrue([e for e in equations if re.search(r"\br\b", e)], "nothing is said of the result")
+                    self.assertTrue([e for e in equations if re.search(r"\bresult\b", e)], "nothing is said of the result")
                 for output in re.findall(r"(\w+): &mut ", parameters):
-                    self.assertTrue([e for e in equations if f"now ({output} .exit)" in e], f"nothing is said of {output}")
+                    self.assertTrue([e for e in equations if re.search(rf"\b{output}\.new\b", e)], f"nothing is said of {output}")
 
 
 if __name__ == "__main__":

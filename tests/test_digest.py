@@ -1,6 +1,6 @@
 """The program `digest` writes KT128 of its standard input, or why not; it is really run, on pipes, files and inputs that cannot be read.
 
-Needs target/bin/digest, which `rt check` and `rt ci` leave.
+Needs crates/digest/out/digest, which `rt ci` leaves.
 """
 import fcntl
 import os
@@ -10,11 +10,11 @@ import threading
 import time
 import tty
 import unittest
-from pathlib import Path
 
 import reference
+from programs import program
 
-PROGRAM = Path(__file__).resolve().parent.parent / "target/bin/digest"
+PROGRAM = program("digest")
 USAGE = b"usage: digest < FILE\n"
 LONG = 4_294_967_296  # more bytes than a number of 32 bits counts; the limit itself is slow_digest.py's
 

@@ -1,35 +1,33 @@
 """What must_fail.py lets pass and what not: on texts, and on a small repository that is really proved.
 
-The project's own edits are tried by must_fail.py itself, a part of the gate beside these tests.
+The project's own edits are tried by `rt ci` and held by must_fail.py itself, a part of the gate beside these tests.
 """
-import contextlib
-import io
 import re
-import shutil
 import subprocess
 import sys
 import tempfile
 import unittest
 from pathlib import Path
-from unittest import mock
 
 import must_fail
-from edits import Bad, apply, errors_of, hold_first_error, parts
+from edits import PRINTED, Bad, answers_of, apply, errors_of, function_at, hold_first_error, hold_line
 
 RUNNER = Path(must_fail.__file__).resolve()
 CRATE = {
     "src/lib.rt": """// What must_fail.py is tried on.
-ghost use mathlib.Core.Path.{_≡_};
-ghost use Rattle·small·specs.specs.Small.{doubled};
+#![tactic(auto)]
+
+ghost use Rattle.std.specs.Prelude.{◌≡◌};
+ghost use Rattle.small.specs.Small.{doubled};
 
 fn keep(x: u8) -> u8
-    ensures { λ r. ⌜ r ≡ x ⌝ }
+    ensures { result ≡ x }
 {
     x
 }
 
 pub fn twice(x: u8) -> u64
-    ensures { λ r. ⌜ r ≡ doubled x ⌝ }
+    ensures { result ≡ doubled x }
 {
     let y = keep(x);
     2 * (y as u64)
@@ -37,60 +35,59 @@ pub fn twice(x: u8) -> u64
 """,
     "specs/Lib.antt": "pub mod Small\n",
     "specs/Small.antt": """-- Twice a number. Assumes nothing.
-use Prim.Native.Nat.{ℕ, _*_}
+use Prim.Native.Nat.{ℕ, ◌*◌}
 
 unfoldable pub doubled : ℕ → ℕ
 doubled x = 2 * x
 """,
-    "proofs/twice/Proof.antt": """-- `small::twice` meets its contract: twice what `keep` hands back. Assumes nothing.
+    "proofs/twice/Answers.antt": """-- `small::twice` meets its contract: twice what `keep` hands back. Assumes nothing.
 use mathlib.Core.Path.{ap}
-use Prim.Native.Nat.{ℕ, _*_}
-use borrow.Author.Needs.{needs}
-use Rattle·small·specs.specs.Small.{doubled}
-use Rattle·small·proofs.proofs.twice.Statement.{statement}
-use Rattle·small·proofs.proofs.twice.Tie as tie
+use Prim.Native.Nat.{ℕ, ◌*◌}
+use Rattle.small.specs.Small.{doubled}
+use Rattle.small.proofs.twice.Goals as goal
 
-keep-requires : tie.Need-keep-requires
-keep-requires c κs = search needs
-
-cast-result : tie.Need-cast-result
-cast-result c = search needs
-
-mul-result : tie.Need-mul-result
-mul-result c = search needs
-
-returns : tie.Need-returns
+pub returns : goal.returns
 unfolding doubled
-returns c = ap (λ (n : ℕ). 2 * n) (c .keep .ensures)
-
-pub twice-spec : {M : Type 1} → statement M
-twice-spec = tie.close (tie.spec keep-requires cast-result mul-result returns)
+returns c = ap (λ (n : ℕ). 2 * n) c.keep-y.ensures
 """,
 }
-PLACE = "first error: proofs/twice/Proof.antt returns\n"
+PLACE = "first error: proofs/twice/Answers.antt returns\n"
+KEEP = "first error: proofs/keep/Answers.antt returns\n"
 FOUR = "file: src/lib.rt\nold: 2 * (y\nnew: 4 * (y\n"
-# each edit, and what must_fail.py says of it
+# each edit, what must_fail.py says of it by rt's line, and by --whole
 EDITS = {
-    "must-fail/from_nothing": (PLACE + FOUR, None),
-    "must-fail/quick/four_times": (PLACE + FOUR, "refused first at proofs/twice/Proof.antt returns, "),
-    "must-fail/quick/definition_of_three": (PLACE + "file: specs/Small.antt\nold: = 2 *\nnew: = 3 *\n", "refused first at proofs/twice/Proof.antt returns, "),
-    "must-fail/quick/comment_changed": (PLACE + "file: src/lib.rt\nold: // What\nnew: // That which\n", "FAILED: NOT REFUSED"),
-    "must-fail/quick/syntax_error": (PLACE + "file: src/lib.rt\nold: fn keep\nnew: fn\n", "FAILED: BAD EDIT: it did not reach the prover"),
-    "must-fail/quick/type_error": (PLACE + "file: src/lib.rt\nold: twice(x: u8)\nnew: twice(x: u16)\n", "FAILED: BAD EDIT: it did not reach the prover"),
-    "must-fail/quick/text_not_there": (PLACE + "file: src/lib.rt\nold: 5 * (y\nnew: 4 * (y\n", "FAILED: BAD EDIT: an 'old:' text is not in src/lib.rt"),
-    "must-fail/quick/wrong_name": ("first error: proofs/twice/Proof.antt mul-result\n" + FOUR, "FAILED: refused first at proofs/twice/Proof.antt returns, not at"),
-    "must-fail/quick/wrong_file": ("first error: proofs/keep/Proof.antt returns\n" + FOUR, "FAILED: refused first at proofs/twice/Proof.antt returns, not at"),
-    "must-fail/quick/no_name": (FOUR, "FAILED: BAD EDIT: it does not say where"),
-    "must-fail/quick/call_left_out": (
-        "first error: proofs/twice/Proof.antt keep-requires\nfile: src/lib.rt\nold: keep(x);\nnew: x;\n",
-        "FAILED: the proof no longer fits the code (that can be named from here): ",
+    "four_times": (PLACE + FOUR, "refused first at proofs/twice/Answers.antt returns", "from nothing refused first at proofs/twice/Answers.antt returns:"),
+    "keep_none": (
+        KEEP + "file: src/lib.rt\nold:     x\nnew:     0\n",
+        "refused first at proofs/keep/Answers.antt returns",
+        "from nothing refused first at proofs/keep/Answers.antt returns:",
     ),
-    "must-fail/quick/unreadable_definition": (
-        "first error: specs/Small.antt doubled\nfile: specs/Small.antt\nold: = 2 *\nnew: = 2 * *\n",
-        "FAILED: BAD EDIT: a fact is refused in proofs/",
+    "definition_of_three": (PLACE + "file: specs/Small.antt\nold: = 2 *\nnew: = 3 *\n", "refused first at proofs/twice/Answers.antt returns", None),
+    "comment_changed": (PLACE + "file: src/lib.rt\nold: // What\nnew: // That which\n", "FAILED: NOT REFUSED", "FAILED: NOT REFUSED"),
+    "syntax_error": (PLACE + "file: src/lib.rt\nold: fn keep\nnew: fn\n", "FAILED: BAD EDIT: it did not reach the prover", "FAILED: BAD EDIT: it cannot be read"),
+    "type_error": (
+        PLACE + "file: src/lib.rt\nold: twice(x: u8)\nnew: twice(x: u16)\n",
+        "FAILED: BAD EDIT: it did not reach the prover",
+        "FAILED: BAD EDIT: it did not reach the prover",
     ),
-    "must-fail/quick/proof_changed": (PLACE + "file: proofs/twice/Proof.antt\nold: 2 * n\nnew: 4 * n\n", "FAILED: BAD EDIT: a 'file:' line names no file"),
+    "text_not_there": (PLACE + "file: src/lib.rt\nold: 5 * (y\nnew: 4 * (y\n", "FAILED: BAD EDIT: an 'old:' text is in src/lib.rt", None),
+    "wrong_name": ("first error: proofs/twice/Answers.antt result\n" + FOUR, "FAILED: refused first at proofs/twice/Answers.antt returns, not at", None),
+    "wrong_file": (KEEP + FOUR, "FAILED: refused first at proofs/twice/Answers.antt returns, not at", None),
+    "no_name": (FOUR, "FAILED: BAD EDIT: it does not say where", None),
+    "call_left_out": (
+        PLACE + "file: src/lib.rt\nold: keep(x);\nnew: x;\n",
+        "FAILED: refused, but for no fact that it makes false: (only because a proof file names what the edit took away",
+        "FAILED: the proof no longer fits the code (has no field): ",
+    ),
+    "unreadable_definition": ("first error: specs/Small.antt doubled\nfile: specs/Small.antt\nold: = 2 *\nnew: = 2 * *\n", "FAILED: BAD EDIT: the prover cannot read", None),
+    "proof_changed": (PLACE + "file: proofs/twice/Answers.antt\nold: 2 * n\nnew: 4 * n\n", "FAILED: BAD EDIT: a 'file:' line names no file", None),
+    "quick/stray": (PLACE + FOUR, "FAILED: rt did not try it", None),
 }
+
+
+def run(*words):
+    done = subprocess.run(words, stdin=subprocess.DEVNULL, stdout=subprocess.PIPE, stderr=subprocess.STDOUT, text=True)
+    return done.returncode, done.stdout
 
 
 class Runner(unittest.TestCase):
@@ -103,118 +100,65 @@ class Runner(unittest.TestCase):
         cls.root = Path(folder.name).resolve()
         cls.crate = cls.root / "crates/small"
         (cls.root / "crates.txt").write_text("small:\n")
-        for name, text in {**CRATE, **{f"{name}.edit": text for name, (text, _) in EDITS.items()}}.items():
+        for name, text in {**CRATE, **{f"must-fail/{name}.edit": text for name, (text, *_) in EDITS.items()}}.items():
             (cls.crate / name).parent.mkdir(parents=True, exist_ok=True)
             (cls.crate / name).write_text(text)
         done = subprocess.run(["rt", "ci"], cwd=cls.root, stdin=subprocess.DEVNULL, stdout=subprocess.PIPE, stderr=subprocess.STDOUT, text=True)
-        assert done.stdout.endswith("\n2 passed, 0 failed\n"), done.stdout
+        # the crate is proved, and of the edits that could be tried one is not refused
+        assert "\nrt: FAILED: small/comment_changed.edit\n" in done.stdout, done.stdout
+        cls.said = cls.root / "said"
+        cls.said.write_text(done.stdout)
 
     def lines(self, *words):
         """The exit status, the last line, and what was said of each edit."""
-        command = [sys.executable, str(RUNNER), "--root", str(self.root), *words]
-        done = subprocess.run(command, stdin=subprocess.DEVNULL, stdout=subprocess.PIPE, stderr=subprocess.STDOUT, text=True)
-        said = dict(re.findall(r"^(small\S*|those of rt ci): (.*) \([0-9.]+ s\)$", done.stdout, re.MULTILINE))
-        return done.returncode, done.stdout.splitlines()[-1], said
+        status, text = run(sys.executable, str(RUNNER), "--root", str(self.root), *words)
+        return status, text.splitlines()[-1], dict(re.findall(r"^(small/\S*): (.*)$", text, re.MULTILINE))
 
-    def test_every_quick_edit(self):
-        status, last, said = self.lines()
-        due = {f"small/{name.split('/')[-1]}": words for name, (_, words) in EDITS.items() if words}
-        self.assertEqual(set(said), {"small", "those of rt ci", *due})
+    def hold(self, due, status, last, said):
+        self.assertEqual(set(said), {f"small/{name.split('/')[-1]}" for name in due})
         for name, words in due.items():
             with self.subTest(edit=name):
-                self.assertTrue(said[name].startswith(words), said[name])
-        self.assertRegex(said["small"], r"^proved, \d+ of \d+ modules checked$")
-        self.assertEqual(said["those of rt ci"], "each of 1 refused first where it says")
+                found = said[f"small/{name.split('/')[-1]}"]
+                self.assertTrue(found.startswith(words), found)
         failed = sum(words.startswith("FAILED") for words in due.values())
-        self.assertEqual((status, last), (1, f"{len(due) + 1 - failed} passed, {failed} failed"))
+        self.assertEqual((status, last), (1 if failed else 0, f"{len(due) - failed} passed, {failed} failed"))
 
-    def test_quick_is_quick(self):
-        """The folder has what `rt ci` proved: of the unedited crate few modules are checked anew, of an edited one not all."""
-        _, _, said = self.lines("small/four_times")
-        for name in ("small", "small/four_times"):
-            checked, modules = map(int, re.search(r"(\d+) of (\d+) modules checked$", said[name]).groups())
-            self.assertLess(checked, modules / 2)
+    def test_what_rt_ci_said(self):
+        """As the gate does it."""
+        self.hold({name: words for name, (_, words, _) in EDITS.items()}, *self.lines("--said", str(self.said)))
+
+    def test_by_rt_must_fail(self):
+        due = {name: words for name, (_, words, _) in EDITS.items() if name in ("four_times", "keep_none", "wrong_name")}
+        self.hold(due, *self.lines(*(f"small/{name}" for name in due)))
+
+    def test_all_pass(self):
+        self.assertEqual(self.lines("--said", str(self.said), "small/four_times", "small/keep_none")[:2], (0, "2 passed, 0 failed"))
 
     def test_whole(self):
-        """Both ways, and the second takes nothing from the folder."""
-        status, last, said = self.lines("--whole", "small/four_times", "small/from_nothing")
-        self.assertEqual((status, last), (0, "2 passed, 0 failed"))
-        for name in ("small/four_times", "small/from_nothing"):
-            self.assertRegex(said[name], r"^refused first at proofs/twice/Proof.antt returns, \d+ of (\d+) modules checked; from nothing all \1, with the same 2 errors$")
+        """Each of these from nothing, with the whole log."""
+        due = {name: words for name, (_, _, words) in EDITS.items() if words}
+        self.hold(due, *self.lines("--whole", *(f"small/{name}" for name in due)))
+
+    def test_place(self):
+        """The line that an edit should have, for whoever writes one."""
+        _, _, said = self.lines("--place", "small/wrong_name", "small/keep_none")
+        self.assertEqual(said, {"small/wrong_name": PLACE.strip(), "small/keep_none": KEEP.strip()})
 
     def test_names(self):
-        self.assertEqual(self.lines("small/four_times", "small/none"), (1, "0 passed, 1 failed", {}))
-
-    def added(self, name):
-        """A good edit, at another place of the crate while this test goes on."""
-        edit = self.crate / name
-        edit.parent.mkdir(exist_ok=True)
-        edit.write_text(PLACE + FOUR)
-        self.addCleanup(edit.unlink)
-        return edit
-
-    def test_stray(self):
-        """An edit in a folder that nobody looks into is one that nobody tried."""
-        edit = self.added("must-fail/other/stray.edit")
-        _, others = must_fail.chosen(self.root, [])
-        self.assertIn(edit, others)
-        with self.assertRaisesRegex(Bad, "small/stray: `rt ci` did not try it"):
-            must_fail.Rooms(self.root, False).hold_tried(others)
+        self.assertEqual(self.lines("--said", str(self.said), "small/four_times", "small/none"), (1, "0 passed, 1 failed", {}))
 
     def test_two_of_one_name(self):
-        self.added("must-fail/four_times.edit")
-        self.assertEqual(self.lines(), (1, "0 passed, 1 failed", {}))
+        edit = self.crate / "must-fail/quick/four_times.edit"
+        edit.write_text(PLACE + FOUR)
+        self.addCleanup(edit.unlink)
+        self.assertEqual(self.lines("--said", str(self.said)), (1, "0 passed, 1 failed", {}))
 
     def test_not_proved(self):
-        source = self.crate / "src/lib.rt"
-        self.addCleanup(source.write_text, source.read_text())
-        source.write_text(CRATE["src/lib.rt"].replace("2 * (y", "4 * (y"))
-        self.assertEqual(self.lines("small/four_times"), (1, "0 passed, 1 failed", {}))
-
-    def test_folder_not_proved(self):
-        """Where the unedited crate is not proved over its folder, its edits are not tried, and count as failed."""
-        check = must_fail.Rooms.check
-        for verdict in ((1, "logic=not-proved\n"), (0, "no verdict\n"), (None, None)):
-
-            def told(rooms, crate, room):
-                found = check(rooms, crate, room)
-                return (*verdict, *found[2:]) if room.name == ".unedited" and verdict[1] else found
-
-            with self.subTest(verdict=verdict), mock.patch.object(must_fail.Rooms, "check", told), contextlib.redirect_stdout(io.StringIO()) as said:
-                status = must_fail.main(["--root", str(self.root), "small/four_times"])
-            good = verdict[1] is None  # the edit passes where the verdict is the prover's own
-            self.assertEqual((status, said.getvalue().splitlines()[-1]), (0, "1 passed, 0 failed") if good else (1, "0 passed, 1 failed"))
-            self.assertEqual("small/four_times: " in said.getvalue(), good)
-
-    def test_other_errors_from_nothing(self):
-        class Others(must_fail.Rooms):
-            def refused(self, crate, edit, room):
-                where, (errors, verdicts), loaded, checked = super().refused(crate, edit, room)
-                return where, (errors + ["error: one more"] * room.name.endswith(".whole"), verdicts), loaded, checked
-
-        class Folder(must_fail.Rooms):
-            def make(self, crate, name):
-                room = super().make(crate, name)
-                if name.endswith(".whole"):
-                    shutil.copytree(room.parent / ".unedited/target/inc", room / "target/inc", dirs_exist_ok=True)
-                return room
-
-        for kind, words in ((Others, "from nothing the errors are others"), (Folder, "from nothing only .* modules were checked")):
-            rooms = kind(self.root, True)
-            rooms.fill("small")
-            with self.subTest(words=words), self.assertRaisesRegex(Bad, words):
-                rooms.attempt("small", self.crate / "must-fail/quick/four_times.edit")
-
-    def test_those_of_rt_ci(self):
-        rooms, edit = must_fail.Rooms(self.root, False), self.crate / "must-fail/from_nothing.edit"
-        self.addCleanup(edit.write_text, edit.read_text())
-        self.assertEqual(rooms.hold_tried([edit]), "each of 1 refused first where it says")
-        for text in (FOUR, "first error: proofs/twice/Proof.antt mul-result\n" + FOUR, PLACE + "file: proofs/twice/Proof.antt\nold: 2 * n\nnew: 4 * n\n"):
-            with self.subTest(text=text), self.assertRaises(Bad):
-                edit.write_text(text)
-                rooms.hold_tried([edit])
-        with self.assertRaisesRegex(Bad, "small/not_tried: `rt ci` did not try it"):
-            rooms.hold_tried([edit.with_stem("not_tried")])
+        """Of a crate that is not proved rt says nothing of an edit, and each counts as failed."""
+        self.said.with_name("none").write_text("rt: small NOT PROVED\nrt: FAILED: small\n0 passed, 1 failed\n")
+        status, last, said = self.lines("--said", str(self.said.with_name("none")))
+        self.assertEqual((status, last), (1, f"0 passed, {len(EDITS)} failed"))
+        self.assertEqual(set(said.values()), {"FAILED: rt did not try it"})
 
 
 class Texts(unittest.TestCase):
@@ -238,44 +182,121 @@ class Texts(unittest.TestCase):
         apply(self.edit, self.crate)
         self.assertEqual((self.crate / "src/lib.rt").read_text(), "d\nb\n")
 
-    def place(self, place, words):
-        """What is said of an edit that names this place, where the first error is at f of P.antt, in these words."""
-        self.edit.write_text(f"{place}\n")
-        said = f"{self.crate}/proofs/P.antt:1:2: error: `f`: {words}\n  more\n{self.crate}/proofs/Q.antt:1:2: error: `g`: no\nlogic=not-proved\n"
+    PAIR = "file: src/lib.rt\nold: a b\nnew: d\n"
+
+    def by_log(self, place, words):
+        """What is said of an edit that names this place, where the first error in the prover's log is at f of P.antt, in these words."""
+        self.edit.write_text(f"{place}\n{self.PAIR}")
+        said = f"./proofs/P.antt:1:2: error: `f`: {words}\n  more\n./proofs/Q.antt:1:2: error: `g`: no\nlogic=not-proved\n"
         return hold_first_error(self.edit, said, self.crate)
 
+    def by_line(self, place, words):
+        """The same by the line that rt prints of the edit."""
+        self.edit.write_text(f"{place}\n{self.PAIR}")
+        return hold_line(self.edit, f"refused, as it must be: ./proofs/P.antt:1:2: error: `f`: {words}"[: len("refused, as it must be: ") + PRINTED], self.crate)
+
     def test_places(self):
-        self.assertEqual(self.place("first error: proofs/P.antt f", "it is not so"), "proofs/P.antt f")
-        for place in ("first error: proofs/Q.antt g", "first error: proofs/P.antt g", "first error: proofs/Q.antt f", "first error:", "no place"):
-            with self.subTest(place=place), self.assertRaises(Bad):
-                self.place(place, "it is not so")
+        self.assertEqual(self.by_log("first error: proofs/P.antt f", "it is not so"), ("proofs/P.antt f", "./proofs/P.antt:1:2: error: `f`: it is not so\n  more"))
+        self.assertEqual(self.by_line("first error: proofs/P.antt f", "it is not so" * 99), "proofs/P.antt f")
+        for place in ("first error: proofs/Q.antt g", "first error: proofs/P.antt g", "first error: proofs/Q.antt f", "first error:", "no place", "first error: src/lib.rt f"):
+            for held in (self.by_log, self.by_line):
+                with self.subTest(place=place, held=held.__name__), self.assertRaises(Bad):
+                    held(place, "it is not so")
 
     def test_words(self):
-        for words in ("`tie.Need-x`: module `T` has no `Need-x` that can be named from here", "record `R` has no field `y`",
-                      "expected type `tie.Need-x`, but this has type `tie.Need-y`", "`h` was not admitted (it has holes), so this cannot be checked"):
-            with self.subTest(words=words), self.assertRaises(Bad):
-                self.place("first error: proofs/P.antt f", words)
+        for words in ("`goal.x`: module `T` has no `x` that can be named from here", "record `R` has no field `y`", "`y` is not in scope",
+                      "expected type `goal.x`, but this has type `goal.y`", "`h` was not admitted (it has holes), so this cannot be checked"):
+            for held in (self.by_log, self.by_line):
+                with self.subTest(words=words, held=held.__name__), self.assertRaises(Bad):
+                    held("first error: proofs/P.antt f", words)
             with self.subTest(behind=words), self.assertRaises(Bad):
-                self.place("first error: proofs/P.antt f", f"as printed, the two types differ\n  {words}")
+                self.by_log("first error: proofs/P.antt f", f"as printed, the two types differ\n  {words}")
+
+    def test_what_rt_does_not_refuse(self):
+        self.edit.write_text(f"first error: proofs/P.antt f\n{self.PAIR}")
+        for line in ("refused, as it must be", "NOT REFUSED: the crate is still proved with this edit", "BAD EDIT: it changes nothing", "NOT TRIED: its check was killed",
+                     "refused, as it must be (only by a limit of the prover, which gave no verdict): ./proofs/P.antt:1:2: error: `f`: no",
+                     "refused, as it must be (only because a proof file names what the edit took away): ./proofs/P.antt:1:2: error: `f`: no"):
+            with self.subTest(line=line), self.assertRaises(Bad):
+                hold_line(self.edit, line, self.crate)
 
     def test_no_declaration(self):
-        self.edit.write_text("first error: proofs/P.antt f\n")
-        named = f"{self.crate}/proofs/P.antt:1:2: error: `f`: it is not so\n"
-        self.assertEqual(hold_first_error(self.edit, named, self.crate), "proofs/P.antt f")
-        for said in ("", "error: cannot read M\n", f"{self.crate}/proofs/P.antt: error: cannot read it\n", f"{self.crate}/proofs/P.antt:1:2: error: module `M` has no `f`\n"):
+        self.edit.write_text(f"first error: proofs/P.antt f\n{self.PAIR}")
+        named = "./proofs/P.antt:1:2: error: `f`: it is not so\n"
+        self.assertEqual(hold_first_error(self.edit, named, self.crate)[0], "proofs/P.antt f")
+        for said in ("", "error: cannot read M\n", "./proofs/P.antt: error: cannot read it\n", "./proofs/P.antt:1:2: error: module `M` has no `f`\n",
+                     "./proofs/P.antt:1:2: error: 1 declaration that depends on `f`, which was rejected, was not checked: g\n"):
             with self.subTest(said=said), self.assertRaises(Bad):
                 hold_first_error(self.edit, said + named if said else "logic=not-proved\n", self.crate)
 
-    def test_errors(self):
-        said = f"{self.crate}/P.antt:1:2: error: `f`: no\n  more\nnote: {self.crate}/P.antt:1:2: why\n  so\nfn g: not proved\nfn f: proved\n"
-        self.assertEqual(errors_of(said, self.crate), (["P.antt:1:2: error: `f`: no\n  more"], ["fn f: proved", "fn g: not proved"]))
+    SOURCE = """fn one() -> u8
+    ensures { result ≡ 1 }
+{
+    2
+}
 
-    def test_parts(self):
-        """Two errors are one where place, declaration and what is said are the same, in whatever order."""
-        error = "P.antt:1:2: error: `f`: the two differ\n  expected `a: b`"
-        self.assertEqual(parts(error), parts("P.antt:1:2: error: `f`: expected `a: b`\n  the two differ"))
-        for other in (error.replace("1:2", "1:3"), error.replace("`f`", "`g`"), error.replace("differ", "are one"), error.split("\n")[0], "error: no", "P.antt: error[x]: no"):
-            self.assertNotEqual(parts(error), parts(other))
+pub struct S {
+    x: u8,
+}
+
+impl S {
+    pub fn two(
+        x: u8,
+    ) -> u8 {
+        x + 1
+    }
+}
+
+#[unsafe(no_mangle)]
+pub extern "C" fn three() {
+}
+"""
+    NOTE = "note: src/a/b.rt:{}:5: it is not proved that the sum fits its type (at a range `..=n`, `n + 1`) (`overflow_add-result`); the facts (`x`) known"
+
+    def test_goals_without_an_answer(self):
+        """The place is that of the answer which is not written, of the function at the line in the source with the edit."""
+        (self.crate / "src/a").mkdir()
+        (self.crate / "src/a/b.rt").write_text(self.SOURCE)
+        for line, function in ((1, "one"), (4, "one"), (12, "S/two"), (15, "S/two"), (19, "three"), (20, "three")):
+            self.assertEqual("/".join(function_at(self.SOURCE, line)), function)
+            for note, said in ((self.NOTE.format(line), ""), (self.NOTE.format(line), "./proofs/P.antt:1:2: error: `f`: no\n")):
+                self.edit.write_text(f"first error: proofs/a/b/{function}/Answers.antt overflow_add-result\n{self.PAIR}")
+                with self.subTest(line=line):
+                    self.assertEqual(hold_line(self.edit, f"refused, as it must be: {note}", self.crate), f"proofs/a/b/{function}/Answers.antt overflow_add-result")
+                    self.assertEqual(hold_first_error(self.edit, f"{note}\n{said}", self.crate)[1], note)
+                    with self.assertRaises(Bad):
+                        hold_first_error(self.edit, f"./proofs/P.antt:1:2: error: `f`: no\n{note}\n", self.crate)
+        self.assertEqual(answers_of("src/lib", 12, self.SOURCE), "proofs/S/two/Answers.antt")
+        self.assertEqual(answers_of("src/main", 1, self.SOURCE), "proofs/one/Answers.antt")
+        with self.assertRaises(Bad):
+            function_at("use a;\nfn f() {}\n", 1)
+
+    def test_edited_source(self):
+        """Lines are those of the text with the edit."""
+        (self.crate / "src/lib.rt").write_text(self.SOURCE)
+        self.edit.write_text("first error: proofs/three/Answers.antt returns\nfile: src/lib.rt\nold: pub struct S {\nnew: fn more() {} pub struct S {\n")
+        hold_line(self.edit, "refused, as it must be: note: src/lib.rt:20:1: it is not proved that it returns (`returns`)", self.crate)
+        self.edit.write_text("first error: proofs/more/Answers.antt returns\nfile: src/lib.rt\nold: pub struct S {\nnew: fn more() {} pub struct S {\n")
+        hold_line(self.edit, "refused, as it must be: note: src/lib.rt:7:1: it is not proved that it returns (`returns`)", self.crate)
+
+    def test_cut_lines(self):
+        """rt prints 160 characters of an error: a goal's name may lack its end, and no more than that."""
+        (self.crate / "src/lib.rt").write_text(self.SOURCE)
+        start = "note: src/lib.rt:1:1: it is not proved that "
+        cut = start + "x" * (PRINTED - len(start) - len(" (`returns-th")) + " (`returns-th"
+        for name, passes in (("returns-then-x", True), ("returns", False), ("returns-two", False)):
+            self.edit.write_text(f"first error: proofs/one/Answers.antt {name}\nfile: src/lib.rt\nold: pub struct S\nnew: pub struct T\n")
+            for error, is_cut in ((cut, True), (cut[:-1], False), (cut[:-1] + "`)", False)):
+                with self.subTest(name=name, error=error):
+                    if passes and is_cut:
+                        hold_line(self.edit, f"refused, as it must be: {error}", self.crate)
+                    else:
+                        with self.assertRaises(Bad):
+                            hold_line(self.edit, f"refused, as it must be: {error}", self.crate)
+
+    def test_errors(self):
+        said = f"{self.crate}/P.antt:1:2: error: `f`: no\n  more\nnote: ./P.antt:1:2: why\n  so\nfn g: not proved\nnote: src/lib.rt:1:1: it is not proved that it ends (`g`)\n"
+        self.assertEqual(errors_of(said, self.crate), ["P.antt:1:2: error: `f`: no\n  more", "note: src/lib.rt:1:1: it is not proved that it ends (`g`)"])
 
 
 if __name__ == "__main__":

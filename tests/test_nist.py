@@ -1,7 +1,7 @@
 """The program `replay` gives all 4,642 values of NIST's response files for FIPS 202, in one go, in pieces, and in the Monte Carlo chains; and
 NIST's 16 sample values for SP 800-185, in one go and in pieces.
 
-Needs target/bin/replay, which `rt check` and `rt ci` leave.
+Needs crates/replay/out/replay, which `rt ci` leaves.
 """
 import random
 import unittest

@@ -1,6 +1,6 @@
 """The program `replay` and the second program give what openssl's KMAC gives: an outside program, on 200 random inputs.
 
-Needs target/bin/replay, which `rt check` and `rt ci` leave, and openssl from version 3 on (Debian's package openssl). Where that is not installed
+Needs crates/replay/out/replay, which `rt ci` leaves, and openssl from version 3 on (Debian's package openssl). Where that is not installed
 the test is skipped, and says so.
 """
 import random

@@ -1,10 +1,8 @@
 """The program `permutation` writes what the second program works out."""
 import unittest
-from pathlib import Path
 
 import reference
-
-ROOT = Path(__file__).resolve().parent.parent
+from programs import ROOT, written
 
 
 class Output(unittest.TestCase):
@@ -12,8 +10,10 @@ class Output(unittest.TestCase):
         self.assertEqual((ROOT / "crates/permutation/stdout").read_text(), reference.permutation_output())
 
     def test_what_was_written(self):
-        """What the program wrote when `rt ci` ran it."""
-        self.assertEqual((ROOT / "target/log/permutation.stdout").read_text(), reference.permutation_output())
+        """What the program wrote when `rt ci` ran it, as each compiler built it."""
+        for file, text in written("permutation").items():
+            with self.subTest(file=file):
+                self.assertEqual(text, reference.permutation_output())
 
 
 if __name__ == "__main__":

@@ -1,15 +1,13 @@
 """The programs write what expected.py says, and document 01's edges of a block hold by hand."""
 import unittest
-from pathlib import Path
 
 import expected
 import make_replay_sample
 import reference
 import third_program
 import transcript
+from programs import ROOT, written
 from sponge_functions import FIPS202, SPONGE
-
-ROOT = Path(__file__).resolve().parent.parent
 
 
 class Output(unittest.TestCase):
@@ -19,10 +17,11 @@ class Output(unittest.TestCase):
                 self.assertEqual((ROOT / "crates" / program / "stdout").read_text(), output())
 
     def test_what_was_written(self):
-        """What each program wrote when `rt ci` ran it."""
+        """What each program wrote when `rt ci` ran it, as each compiler built it."""
         for program, output in expected.OUTPUTS.items():
             with self.subTest(program=program):
-                self.assertEqual((ROOT / "target/log" / f"{program}.stdout").read_text(), output())
+                for file, text in written(program).items():
+                    self.assertEqual(text, output(), file)
 
     def test_replay_sample(self):
         """The list of calls that `rt ci` runs `replay` on, and its lines, are those of the script."""

@@ -1,7 +1,7 @@
 """The program `replay` answers lists of calls on runs of TurboSHAKE and of FIPS 202 as the transcript does, and overwritten runs by the same
 rules.
 
-Needs target/bin/replay, which `rt check` and `rt ci` leave.
+Needs crates/replay/out/replay, which `rt ci` leaves.
 """
 import itertools
 import random

@@ -1,6 +1,6 @@
 """With both strings empty the program `replay` answers for cSHAKE what it answers for SHAKE: the same lists, line by line.
 
-Needs target/bin/replay, which `rt check` and `rt ci` leave.
+Needs crates/replay/out/replay, which `rt ci` leaves.
 """
 import random
 import unittest

@@ -1,6 +1,6 @@
 """The program `replay` takes a customization string, or a station's name, in pieces as request Q-2 says, on KT runs and on days.
 
-Needs target/bin/replay, which `rt check` and `rt ci` leave.
+Needs crates/replay/out/replay, which `rt ci` leaves.
 """
 import unittest
 

@@ -1,6 +1,6 @@
 """The program `replay` gives what hashlib gives, for SHA3 and SHAKE, in one go and in pieces.
 
-Needs target/bin/replay, which `rt check` and `rt ci` leave.
+Needs crates/replay/out/replay, which `rt ci` leaves.
 """
 import random
 import unittest

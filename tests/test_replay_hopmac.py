@@ -1,6 +1,6 @@
 """The program `replay` answers HopMAC and the tag check as the second program does.
 
-Needs target/bin/replay, which `rt check` and `rt ci` leave.
+Needs crates/replay/out/replay, which `rt ci` leaves.
 """
 import random
 import unittest

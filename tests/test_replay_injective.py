@@ -1,7 +1,7 @@
 """Runs of a function of the sponge that differ in their lanes stay different when they are fed the same bytes; runs of KT that differ in a leaf's need not.
 
-The runs pass answer 5's test, which does not look at the lanes. Every line that is compared is the program's own. Needs target/bin/replay,
-which `rt check` and `rt ci` leave.
+The runs pass answer 5's test, which does not look at the lanes. Every line that is compared is the program's own. Needs
+crates/replay/out/replay, which `rt ci` leaves.
 """
 import operator
 import random

@@ -1,6 +1,6 @@
 """The program `replay` undoes the last n of the 24 rounds on any state as the second program does, and refuses more than 24.
 
-Needs target/bin/replay, which `rt check` and `rt ci` leave.
+Needs crates/replay/out/replay, which `rt ci` leaves.
 """
 import contextlib
 import unittest

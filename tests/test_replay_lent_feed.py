@@ -1,8 +1,8 @@
 """The program `replay` feeds message pieces to KT runs with words lent to the second engine (request Q-6, op a) as it does plainly.
 
 Pieces with four whole leaves and more, from every kind of place in a chunk; after every call the run's fields are compared with those of a run that is fed
-plainly, the permutations with the book's. Which calls are refused is in test_replay_lent_refused.py. Needs target/bin/replay, which `rt check` and
-`rt ci` leave.
+plainly, the permutations with the book's. Which calls are refused is in test_replay_lent_refused.py. Needs crates/replay/out/replay, which
+`rt ci` leaves.
 """
 import unittest
 

@@ -1,6 +1,6 @@
 """The program `replay` answers lists in which KT runs are fed plainly and with words lent (request Q-6), at will, as the transcript does.
 
-Overwritten runs by the same rules; KT in one go by either engine between the calls. Needs target/bin/replay, which `rt check` and `rt ci` leave.
+Overwritten runs by the same rules; KT in one go by either engine between the calls. Needs crates/replay/out/replay, which `rt ci` leaves.
 """
 import unittest
 

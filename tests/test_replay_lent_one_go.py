@@ -1,6 +1,6 @@
 """The program `replay` answers KT calls in one go that lend words to the second engine (request Q-6, op k) as the plain ones, and 12 before all.
 
-The bytes are those of the second program (reference.py). Needs target/bin/replay, which `rt check` and `rt ci` leave.
+The bytes are those of the second program (reference.py). Needs crates/replay/out/replay, which `rt ci` leaves.
 """
 import unittest
 

@@ -1,7 +1,7 @@
 """The program `replay` answers 12 before all other numbers to a KT feed whose lent slice is not of 100 words (request Q-6, op a), and with 100
 words refuses as the plain feed does. A refused call leaves the run and the words as they were.
 
-Needs target/bin/replay, which `rt check` and `rt ci` leave.
+Needs crates/replay/out/replay, which `rt ci` leaves.
 """
 import unittest
 

@@ -1,6 +1,6 @@
 """A record that does not fit: the program `replay` writes the line `bad record`, and nothing of what follows.
 
-Needs target/bin/replay, which `rt check` and `rt ci` leave.
+Needs crates/replay/out/replay, which `rt ci` leaves.
 """
 import unittest
 

@@ -1,6 +1,6 @@
 """A record of request Q-14 that does not fit, or one that is none of a run which begins with a start: `bad record`, and nothing of what follows.
 
-Needs target/bin/replay, which `rt check` and `rt ci` leave.
+Needs crates/replay/out/replay, which `rt ci` leaves.
 """
 import unittest
 

@@ -1,6 +1,6 @@
 """The program `replay` counts the permutations of a run as request Q-10 says, and answers 5 where the number is not the totals'.
 
-Needs target/bin/replay, which `rt check` and `rt ci` leave.
+Needs crates/replay/out/replay, which `rt ci` leaves.
 """
 import unittest
 

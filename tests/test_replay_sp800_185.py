@@ -1,6 +1,6 @@
 """The program `replay` answers lists of calls on runs of SP 800-185's functions as the transcript does, and overwritten runs by the same rules.
 
-Needs target/bin/replay, which `rt check` and `rt ci` leave.
+Needs crates/replay/out/replay, which `rt ci` leaves.
 """
 import random
 import unittest

@@ -1,7 +1,7 @@
 """The program `replay` at the edges of SP 800-185, which packaged libraries get wrong: where a bytepad ends, lengths of one byte and more, keys,
 messages and outputs around a block. Each in one go and in pieces, with the run after every call.
 
-Needs target/bin/replay, which `rt check` and `rt ci` leave.
+Needs crates/replay/out/replay, which `rt ci` leaves.
 """
 import unittest
 

@@ -1,6 +1,6 @@
 """The program `replay` at the limits of SP 800-185's runs, and on runs that no start followed by calls reaches, all of which answer 5.
 
-Runs come there by overwritten fields. Needs target/bin/replay, which `rt check` and `rt ci` leave.
+Runs come there by overwritten fields. Needs crates/replay/out/replay, which `rt ci` leaves.
 """
 import unittest
 

@@ -1,44 +1,38 @@
 """The tables of docs/ are those that tables.py makes of the tree, and the gate's times are put as they should be."""
 import re
+import subprocess
+import sys
 import tempfile
 import unittest
 from pathlib import Path
 
 import tables
 
-PARTS = "layout 1 0 0\nproofs 17 0 601\nedits 3 1 59\n"
-PROOFS = """rt: keccak proved (12 s)
-rt: must-fail keccak/first_twelve_constants: refused, as it must be (first at proofs/P.antt:1:2; 11 s)
-rt: digest proved (1234 s)
-rt: digest ran as nobody, and wrote what its file 'stdout' has (0 s)
-17 passed, 0 failed
-"""
-EDITS = """rt: keccak proved (unchanged since it was last proved)
-keccak: proved, 3 of 165 modules checked (1.5 s)
-keccak/one_offset: refused first at proofs/P.antt returns, 21 of 165 modules checked (12.5 s)
-keccak/iota_lane: FAILED: NOT REFUSED: the crate is still proved with this edit (2.4 s)
-3 passed, 1 failed
+PARTS = "proofs 17 0 601\nedits 3 1 1\ntests 1 0 59\n"
+PROOFS = """0.0 == keccak
+2.1 fn keccak::rotate_left: proved
+12.4 rt: keccak proved
+12.4 rt: keccak: trying its must-fail edits (3)
+12.6 rt: hex is kept: an earlier run on this machine proved the same files over the same libraries
+99.5 rt: digest: its tests are proved
+1234.5 rt: digest proved
+1300.0 rt: must-fail keccak/first_rounds.edit: refused, as it must be: ./proofs/P.antt:1:2: error: `f`: no
+1300.0 rt: must-fail keccak/iota_lane.edit: NOT REFUSED: the crate is still proved with this edit
+1300.1 rt: digest ran, and wrote what its file stdout has
+1300.1 17 passed, 0 failed
 """
 TIMES = """
 | part | passed | failed | seconds |
 |---|---|---|---|
-| layout | 1 | 0 | 0 |
 | proofs | 17 | 0 | 601 |
-| edits | 3 | 1 | 59 |
+| edits | 3 | 1 | 1 |
+| tests | 1 | 0 | 59 |
 
-| crate, from nothing | seconds |
+| crate | proved after seconds |
 |---|---|
 | keccak | 12 |
+| hex | kept from an earlier run |
 | digest | 1,234 |
-
-| the slowest of 1 edits, from nothing | seconds |
-|---|---|
-| keccak/first_twelve_constants | 11 |
-
-| the slowest of 2 edits, quick | seconds |
-|---|---|
-| keccak/one_offset | 12 |
-| keccak/iota_lane | 2 |
 """
 
 
@@ -65,38 +59,64 @@ class Pages(unittest.TestCase):
         self.assertEqual(libraries - {crate for crate, _ in listed}, set(), "a library without an edit")
 
 
+class Tree(unittest.TestCase):
+    def test_crates(self):
+        with tempfile.TemporaryDirectory() as folder:
+            root = Path(folder)
+            (root / "crates.txt").write_text("# NAME: DEP ..\na:\nb: a hex # the second\nb_c staticlib: b a\nd may_wait=2: b_c\n")
+            self.assertEqual(tables.crates(root), ["a", "b", "b_c", "d"])
+            self.assertEqual(tables.below(root, "b_c"), {"a", "b", "b_c"})
+            self.assertEqual(tables.below(root, "a"), {"a"})
+
+    def test_place(self):
+        for words, place in (
+            ("proofs/Constants.antt rule", "`Constants.antt`: `rule`"),
+            ("proofs/permute/Answers.antt loop-i-init", "`permute`: `loop-i-init`"),
+            ("proofs/round/chi/Invariants.antt invariant-loop", "`round::chi`: `invariant-loop`"),
+        ):
+            self.assertEqual(tables.place(words), place)
+
+
 class Times(unittest.TestCase):
     def setUp(self):
         folder = tempfile.TemporaryDirectory()
         self.addCleanup(folder.cleanup)
         self.folder = Path(folder.name)
-        for name, text in (("parts", PARTS), ("proofs", PROOFS), ("edits", EDITS)):
+        for name, text in (("parts", PARTS), ("proofs.clock", PROOFS)):
             (self.folder / name).write_text(text)
         self.times = tables.times(self.folder)
 
     def test_times(self):
         head, _, run, rest = self.times.split("\n", 3)
         self.assertEqual(head, "## Check times")
-        self.assertRegex(run, r"^One run of the gate on \S.*, \d+ processors \(.*\): 21 passed, 1 failed, 11 min 0 s\.$")
+        self.assertRegex(run, r"^One run of the gate on \S.*, \d+ processors \(.*\): 21 passed, 1 failed, 11 min 1 s\. 1 wrong versions were refused\.$")
         self.assertEqual(rest, TIMES)
 
     def test_all_are_told(self):
         """Where nothing failed, each crate and each edit of the tree has its line; a lost one fails."""
-        (self.folder / "parts").write_text(PARTS.replace("3 1 59", "4 0 59"))
-        names = [(path.parts[-4 if how == "quick" else -3], path.stem, how) for how, pattern in tables.TRIED.items() for path in tables.ROOT.glob(f"crates/*/{pattern}")]
-        proofs = [f"rt: {name} proved (1 s)" for name in tables.crates(tables.ROOT)]
-        proofs += [f"rt: must-fail {crate}/{name}: refused, as it must be (first at P:1:2; 1 s)" for crate, name, how in names if how != "quick"]
-        edits = [f"{crate}/{name}: refused first at P f, 1 of 2 modules checked (1.0 s)" for crate, name, how in names if how == "quick"]
+        (self.folder / "parts").write_text(PARTS.replace("3 1 1", "4 0 1"))
+        proofs = [f"1.0 rt: {name} proved" for name in tables.crates(tables.ROOT)]
+        edits = [f"{path.parts[-3]}/{path.name}" for path in tables.ROOT.glob("crates/*/must-fail/*.edit")]
+        edits = [f"2.0 rt: must-fail {name}: refused, as it must be: ./proofs/P.antt:1:2: error: `f`: no" for name in edits]
 
         def told(proofs, edits):
-            (self.folder / "proofs").write_text("\n".join(proofs) + "\n")
-            (self.folder / "edits").write_text("\n".join(edits) + "\n")
+            (self.folder / "proofs.clock").write_text("\n".join(proofs + edits) + "\n")
             return tables.times(self.folder)
 
-        self.assertIn(f"| the slowest of {len(edits)} edits, quick | seconds |\n", told(proofs, edits))
-        for fewer in ((proofs[1:], edits), (proofs[:-1], edits), (proofs, edits[1:])):
+        self.assertIn(f" {len(edits)} wrong versions were refused.\n", told(proofs, edits))
+        for fewer in ((proofs[1:], edits), (proofs, edits[:-1])):
             with self.assertRaises(SystemExit):
                 told(*fewer)
+
+    def test_clock(self):
+        """The clock passes every byte on, and the file has each line behind its time."""
+        said = b"one\ntwo \xff\nthree"
+        command = [sys.executable, tables.__file__, "clock", str(self.folder / "clock")]
+        self.assertEqual(subprocess.run(command, input=said, stdout=subprocess.PIPE, check=True).stdout, said)
+        lines = (self.folder / "clock").read_bytes().split(b"\n")
+        self.assertEqual([line.split(b" ", 1)[1] for line in lines], said.split(b"\n"))
+        for line in lines:
+            self.assertRegex(line, rb"^\d+\.\d ")
 
     def test_replaced(self):
         """A page gets the section that the gate printed, and keeps what stands before and behind it."""
