@@ -1,6 +1,6 @@
 """A must-fail edit: how it is made in a copy of its crate, and how what rt or the prover then says is held to it.
 
-An edit is a wrong version of a crate, in its code (src/) or in a definition (specs/). Its line `first error: FILE NAME` says which
+An edit is a wrong version of a crate, in its code (src/) or in a definition (specs/). Its line `# first error: FILE NAME` says which
 declaration of proofs/ the prover must refuse first: an answer for a goal of a function, whether one is written or not, an invariant, or a law.
 The place is held here, and the words by which the prover says that a proof no longer fits the code. That the declaration is a fact which the
 edit makes false is for a person to read in the prover's log.
@@ -104,7 +104,7 @@ def errors_of(said, folder):
 
 def named_in(edit):
     """The place that an edit says of itself."""
-    named = re.search(r"^first error: (\S+ \S+)$", edit.read_text(), re.MULTILINE)
+    named = re.search(r"^# first error: (\S+ \S+)$", edit.read_text(), re.MULTILINE)
     if not named:
         raise Bad("BAD EDIT: it does not say where it must be refused")
     if not named.group(1).startswith("proofs/"):

@@ -57,7 +57,7 @@ def held(edit, root, lines):
 def placed(edit, root, lines):
     """Where rt refused an edit, in the words of its line."""
     folder = crate_of(edit, root)
-    return f"first error: {place_of(error_in(lines[name_of(edit, root)]), folder, edited(edit, folder))[0]}"
+    return f"# first error: {place_of(error_in(lines[name_of(edit, root)]), folder, edited(edit, folder))[0]}"
 
 
 def whole(edit, root):

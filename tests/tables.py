@@ -86,8 +86,8 @@ def edits(root):
         rows = []
         for path in edits_of(root / "crates" / name):
             words = path.read_text()
-            first = re.search(r"^first error: (.*)$", words, re.MULTILINE).group(1)
-            rows.append([f"`{path.stem}`", words.split("\n", 1)[0].replace("|", "\\|"), place(first)])
+            first = re.search(r"^# first error: (.*)$", words, re.MULTILINE).group(1)
+            rows.append([f"`{path.stem}`", words.split("\n", 1)[0].removeprefix("# ").replace("|", "\\|"), place(first)])
         if rows:
             text += f"\nOf `crates/{name}`:\n\n" + table(["edit", "the wrong version", "refused first at"], rows)
     return text

@@ -51,8 +51,8 @@ unfolding doubled
 returns c = ap (λ (n : ℕ). 2 * n) c.keep-y.ensures
 """,
 }
-PLACE = "first error: proofs/twice/Answers.antt returns\n"
-KEEP = "first error: proofs/keep/Answers.antt returns\n"
+PLACE = "# first error: proofs/twice/Answers.antt returns\n"
+KEEP = "# first error: proofs/keep/Answers.antt returns\n"
 FOUR = "file: src/lib.rt\nold: 2 * (y\nnew: 4 * (y\n"
 # each edit, what must_fail.py says of it by rt's line, and by --whole
 EDITS = {
@@ -71,7 +71,7 @@ EDITS = {
         "FAILED: BAD EDIT: it did not reach the prover",
     ),
     "text_not_there": (PLACE + "file: src/lib.rt\nold: 5 * (y\nnew: 4 * (y\n", "FAILED: BAD EDIT: an 'old:' text is in src/lib.rt", None),
-    "wrong_name": ("first error: proofs/twice/Answers.antt result\n" + FOUR, "FAILED: refused first at proofs/twice/Answers.antt returns, not at", None),
+    "wrong_name": ("# first error: proofs/twice/Answers.antt result\n" + FOUR, "FAILED: refused first at proofs/twice/Answers.antt returns, not at", None),
     "wrong_file": (KEEP + FOUR, "FAILED: refused first at proofs/twice/Answers.antt returns, not at", None),
     "no_name": (FOUR, "FAILED: BAD EDIT: it does not say where", None),
     "call_left_out": (
@@ -79,7 +79,7 @@ EDITS = {
         "FAILED: refused, but for no fact that it makes false: (only because a proof file names what the edit took away",
         "FAILED: the proof no longer fits the code (has no field): ",
     ),
-    "unreadable_definition": ("first error: specs/Small.antt doubled\nfile: specs/Small.antt\nold: = 2 *\nnew: = 2 * *\n", "FAILED: BAD EDIT: the prover cannot read", None),
+    "unreadable_definition": ("# first error: specs/Small.antt doubled\nfile: specs/Small.antt\nold: = 2 *\nnew: = 2 * *\n", "FAILED: BAD EDIT: the prover cannot read", None),
     "proof_changed": (PLACE + "file: proofs/twice/Answers.antt\nold: 2 * n\nnew: 4 * n\n", "FAILED: BAD EDIT: a 'file:' line names no file", None),
     "quick/stray": (PLACE + FOUR, "FAILED: rt did not try it", None),
 }
@@ -196,9 +196,9 @@ class Texts(unittest.TestCase):
         return hold_line(self.edit, f"refused, as it must be: ./proofs/P.antt:1:2: error: `f`: {words}"[: len("refused, as it must be: ") + PRINTED], self.crate)
 
     def test_places(self):
-        self.assertEqual(self.by_log("first error: proofs/P.antt f", "it is not so"), ("proofs/P.antt f", "./proofs/P.antt:1:2: error: `f`: it is not so\n  more"))
-        self.assertEqual(self.by_line("first error: proofs/P.antt f", "it is not so" * 99), "proofs/P.antt f")
-        for place in ("first error: proofs/Q.antt g", "first error: proofs/P.antt g", "first error: proofs/Q.antt f", "first error:", "no place", "first error: src/lib.rt f"):
+        self.assertEqual(self.by_log("# first error: proofs/P.antt f", "it is not so"), ("proofs/P.antt f", "./proofs/P.antt:1:2: error: `f`: it is not so\n  more"))
+        self.assertEqual(self.by_line("# first error: proofs/P.antt f", "it is not so" * 99), "proofs/P.antt f")
+        for place in ("# first error: proofs/Q.antt g", "# first error: proofs/P.antt g", "# first error: proofs/Q.antt f", "first error:", "no place", "# first error: src/lib.rt f"):
             for held in (self.by_log, self.by_line):
                 with self.subTest(place=place, held=held.__name__), self.assertRaises(Bad):
                     held(place, "it is not so")
@@ -208,12 +208,12 @@ class Texts(unittest.TestCase):
                       "expected type `goal.x`, but this has type `goal.y`", "`h` was not admitted (it has holes), so this cannot be checked"):
             for held in (self.by_log, self.by_line):
                 with self.subTest(words=words, held=held.__name__), self.assertRaises(Bad):
-                    held("first error: proofs/P.antt f", words)
+                    held("# first error: proofs/P.antt f", words)
             with self.subTest(behind=words), self.assertRaises(Bad):
-                self.by_log("first error: proofs/P.antt f", f"as printed, the two types differ\n  {words}")
+                self.by_log("# first error: proofs/P.antt f", f"as printed, the two types differ\n  {words}")
 
     def test_what_rt_does_not_refuse(self):
-        self.edit.write_text(f"first error: proofs/P.antt f\n{self.PAIR}")
+        self.edit.write_text(f"# first error: proofs/P.antt f\n{self.PAIR}")
         for line in ("refused, as it must be", "NOT REFUSED: the crate is still proved with this edit", "BAD EDIT: it changes nothing", "NOT TRIED: its check was killed",
                      "refused, as it must be (only by a limit of the prover, which gave no verdict): ./proofs/P.antt:1:2: error: `f`: no",
                      "refused, as it must be (only because a proof file names what the edit took away): ./proofs/P.antt:1:2: error: `f`: no"):
@@ -221,7 +221,7 @@ class Texts(unittest.TestCase):
                 hold_line(self.edit, line, self.crate)
 
     def test_no_declaration(self):
-        self.edit.write_text(f"first error: proofs/P.antt f\n{self.PAIR}")
+        self.edit.write_text(f"# first error: proofs/P.antt f\n{self.PAIR}")
         named = "./proofs/P.antt:1:2: error: `f`: it is not so\n"
         self.assertEqual(hold_first_error(self.edit, named, self.crate)[0], "proofs/P.antt f")
         for said in ("", "error: cannot read M\n", "./proofs/P.antt: error: cannot read it\n", "./proofs/P.antt:1:2: error: module `M` has no `f`\n",
@@ -260,7 +260,7 @@ pub extern "C" fn three() {
         for line, function in ((1, "one"), (4, "one"), (12, "S/two"), (15, "S/two"), (19, "three"), (20, "three")):
             self.assertEqual("/".join(function_at(self.SOURCE, line)), function)
             for note, said in ((self.NOTE.format(line), ""), (self.NOTE.format(line), "./proofs/P.antt:1:2: error: `f`: no\n")):
-                self.edit.write_text(f"first error: proofs/a/b/{function}/Answers.antt overflow_add-result\n{self.PAIR}")
+                self.edit.write_text(f"# first error: proofs/a/b/{function}/Answers.antt overflow_add-result\n{self.PAIR}")
                 with self.subTest(line=line):
                     self.assertEqual(hold_line(self.edit, f"refused, as it must be: {note}", self.crate), f"proofs/a/b/{function}/Answers.antt overflow_add-result")
                     self.assertEqual(hold_first_error(self.edit, f"{note}\n{said}", self.crate)[1], note)
@@ -274,9 +274,9 @@ pub extern "C" fn three() {
     def test_edited_source(self):
         """Lines are those of the text with the edit."""
         (self.crate / "src/lib.rt").write_text(self.SOURCE)
-        self.edit.write_text("first error: proofs/three/Answers.antt returns\nfile: src/lib.rt\nold: pub struct S {\nnew: fn more() {} pub struct S {\n")
+        self.edit.write_text("# first error: proofs/three/Answers.antt returns\nfile: src/lib.rt\nold: pub struct S {\nnew: fn more() {} pub struct S {\n")
         hold_line(self.edit, "refused, as it must be: note: src/lib.rt:20:1: it is not proved that it returns (`returns`)", self.crate)
-        self.edit.write_text("first error: proofs/more/Answers.antt returns\nfile: src/lib.rt\nold: pub struct S {\nnew: fn more() {} pub struct S {\n")
+        self.edit.write_text("# first error: proofs/more/Answers.antt returns\nfile: src/lib.rt\nold: pub struct S {\nnew: fn more() {} pub struct S {\n")
         hold_line(self.edit, "refused, as it must be: note: src/lib.rt:7:1: it is not proved that it returns (`returns`)", self.crate)
 
     def test_cut_lines(self):
@@ -285,7 +285,7 @@ pub extern "C" fn three() {
         start = "note: src/lib.rt:1:1: it is not proved that "
         cut = start + "x" * (PRINTED - len(start) - len(" (`returns-th")) + " (`returns-th"
         for name, passes in (("returns-then-x", True), ("returns", False), ("returns-two", False)):
-            self.edit.write_text(f"first error: proofs/one/Answers.antt {name}\nfile: src/lib.rt\nold: pub struct S\nnew: pub struct T\n")
+            self.edit.write_text(f"# first error: proofs/one/Answers.antt {name}\nfile: src/lib.rt\nold: pub struct S\nnew: pub struct T\n")
             for error, is_cut in ((cut, True), (cut[:-1], False), (cut[:-1] + "`)", False)):
                 with self.subTest(name=name, error=error):
                     if passes and is_cut:

@@ -9,8 +9,7 @@ use fips202::{Sha3_256, Shake128};
 use sponge::status;
 
 // SHA3-256 of a message, absorbed in pieces of `step` bytes and squeezed at once.
-#[unsafe(no_mangle)]
-pub extern "C" fn bench_sha3_pieces(message: &[u8], step: usize, out: &mut [u8]) -> u8
+pub fn bench_sha3_pieces(message: &[u8], step: usize, out: &mut [u8]) -> u8
     ensures value { result ≡ pieces_status sha3_256 step (length message.now) (length out.old) }
     ensures out_after { out.new ≡ pieces_output sha3_256 step message.now out.old }
 {
@@ -36,8 +35,7 @@ pub extern "C" fn bench_sha3_pieces(message: &[u8], step: usize, out: &mut [u8])
 }
 
 // The same in one go.
-#[unsafe(no_mangle)]
-pub extern "C" fn bench_sha3_one_go(message: &[u8], out: &mut [u8]) -> u8
+pub fn bench_sha3_one_go(message: &[u8], out: &mut [u8]) -> u8
     ensures value { result ≡ one_go_status transcript.sha3_256 (length message.now) tt (length out.old) }
     ensures out_after { out.new ≡ one_go_output transcript.sha3_256 message.now tt out.old }
 {
@@ -45,8 +43,7 @@ pub extern "C" fn bench_sha3_one_go(message: &[u8], out: &mut [u8]) -> u8
 }
 
 // SHAKE128 of a message, absorbed in pieces of `step` bytes and squeezed at once.
-#[unsafe(no_mangle)]
-pub extern "C" fn bench_shake_pieces(message: &[u8], step: usize, out: &mut [u8]) -> u8
+pub fn bench_shake_pieces(message: &[u8], step: usize, out: &mut [u8]) -> u8
     ensures value { result ≡ pieces_status shake128 step (length message.now) (length out.old) }
     ensures out_after { out.new ≡ pieces_output shake128 step message.now out.old }
 {
@@ -72,8 +69,7 @@ pub extern "C" fn bench_shake_pieces(message: &[u8], step: usize, out: &mut [u8]
 }
 
 // The same in one go.
-#[unsafe(no_mangle)]
-pub extern "C" fn bench_shake_one_go(message: &[u8], out: &mut [u8]) -> u8
+pub fn bench_shake_one_go(message: &[u8], out: &mut [u8]) -> u8
     ensures value { result ≡ one_go_status transcript.shake128 (length message.now) tt (length out.old) }
     ensures out_after { out.new ≡ one_go_output transcript.shake128 message.now tt out.old }
 {

@@ -4,8 +4,7 @@ ghost use Rattle.abreast.specs.Four.{states_status};
 ghost use Rattle.bench.specs.Repeat.{repeated_four};
 
 // Permutes the four states `count` times; a slice that is not 100 words long is refused and left as it is.
-#[unsafe(no_mangle)]
-pub extern "C" fn bench_permute_four(states: &mut [u64], count: usize) -> u8
+pub fn bench_permute_four(states: &mut [u64], count: usize) -> u8
     ensures value { result ≡ states_status (length states.old) }
     ensures states_after { states.new ≡ repeated_four count states.old }
 {

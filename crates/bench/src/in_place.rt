@@ -8,8 +8,7 @@ use sponge::status;
 use turboshake::TurboShake128;
 
 // TurboSHAKE128 of a message, with D = 1F.
-#[unsafe(no_mangle)]
-pub extern "C" fn bench_in_place(message: &[u8], step: usize, out: &mut [u8]) -> u8
+pub fn bench_in_place(message: &[u8], step: usize, out: &mut [u8]) -> u8
     ensures value { result ≡ pieces_status turboshake_with1_f step (length message.now) (length out.old) }
     ensures out_after { out.new ≡ pieces_output turboshake_with1_f step message.now out.old }
 {
@@ -36,8 +35,7 @@ pub extern "C" fn bench_in_place(message: &[u8], step: usize, out: &mut [u8]) ->
 }
 
 // SHA3-256.
-#[unsafe(no_mangle)]
-pub extern "C" fn bench_sha3_in_place(message: &[u8], step: usize, out: &mut [u8]) -> u8
+pub fn bench_sha3_in_place(message: &[u8], step: usize, out: &mut [u8]) -> u8
     ensures value { result ≡ pieces_status sha3_256 step (length message.now) (length out.old) }
     ensures out_after { out.new ≡ pieces_output sha3_256 step message.now out.old }
 {
@@ -64,8 +62,7 @@ pub extern "C" fn bench_sha3_in_place(message: &[u8], step: usize, out: &mut [u8
 }
 
 // SHAKE128.
-#[unsafe(no_mangle)]
-pub extern "C" fn bench_shake_in_place(message: &[u8], step: usize, out: &mut [u8]) -> u8
+pub fn bench_shake_in_place(message: &[u8], step: usize, out: &mut [u8]) -> u8
     ensures value { result ≡ pieces_status shake128 step (length message.now) (length out.old) }
     ensures out_after { out.new ≡ pieces_output shake128 step message.now out.old }
 {

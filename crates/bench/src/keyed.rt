@@ -9,8 +9,7 @@ use sp800_185::{CShake128, Kmac128};
 use sponge::status;
 
 // cSHAKE128 of a message, absorbed in pieces of `step` bytes and squeezed at once.
-#[unsafe(no_mangle)]
-pub extern "C" fn bench_cshake_pieces(message: &[u8], step: usize, out: &mut [u8]) -> u8
+pub fn bench_cshake_pieces(message: &[u8], step: usize, out: &mut [u8]) -> u8
     ensures value { result ≡ pieces_status cshake_with_strings step (length message.now) (length out.old) }
     ensures out_after { out.new ≡ pieces_output cshake_with_strings step message.now out.old }
 {
@@ -37,8 +36,7 @@ pub extern "C" fn bench_cshake_pieces(message: &[u8], step: usize, out: &mut [u8
 }
 
 // The same in one go.
-#[unsafe(no_mangle)]
-pub extern "C" fn bench_cshake_one_go(message: &[u8], out: &mut [u8]) -> u8
+pub fn bench_cshake_one_go(message: &[u8], out: &mut [u8]) -> u8
     ensures value { result ≡ cshake.one_go_status (length bench_name) (length bench_string) (length message.now) (length out.old) }
     ensures out_after { out.new ≡ cshake.one_go_output 168 message.now bench_name bench_string out.old }
 {
@@ -46,8 +44,7 @@ pub extern "C" fn bench_cshake_one_go(message: &[u8], out: &mut [u8]) -> u8
 }
 
 // KMAC128 of a message, absorbed in pieces of `step` bytes, with an output length of 32 bytes, squeezed at once.
-#[unsafe(no_mangle)]
-pub extern "C" fn bench_kmac_pieces(message: &[u8], step: usize, out: &mut [u8]) -> u8
+pub fn bench_kmac_pieces(message: &[u8], step: usize, out: &mut [u8]) -> u8
     ensures value { result ≡ pieces_status kmac_of32 step (length message.now) (length out.old) }
     ensures out_after { out.new ≡ pieces_output kmac_of32 step message.now out.old }
 {
@@ -75,8 +72,7 @@ pub extern "C" fn bench_kmac_pieces(message: &[u8], step: usize, out: &mut [u8])
 }
 
 // KMAC128 in one go, with as many bytes of output as `out` holds.
-#[unsafe(no_mangle)]
-pub extern "C" fn bench_kmac_one_go(message: &[u8], out: &mut [u8]) -> u8
+pub fn bench_kmac_one_go(message: &[u8], out: &mut [u8]) -> u8
     ensures value { result ≡ kmac.one_go_status (length bench_key) (length bench_string) (length message.now) (length out.old) }
     ensures out_after { out.new ≡ kmac.one_go_output 168 true bench_key message.now bench_string out.old }
 {

@@ -8,8 +8,7 @@ use kangarootwelve::Kt128;
 use sponge::status;
 
 // KT128 of a message, with C empty, absorbed in pieces of `step` bytes and squeezed at once.
-#[unsafe(no_mangle)]
-pub extern "C" fn bench_kt_pieces(message: &[u8], step: usize, out: &mut [u8]) -> u8
+pub fn bench_kt_pieces(message: &[u8], step: usize, out: &mut [u8]) -> u8
     ensures value { result ≡ pieces_status kt_with_none step (length message.now) (length out.old) }
     ensures out_after { out.new ≡ pieces_output kt_with_none step message.now out.old }
 {
@@ -36,8 +35,7 @@ pub extern "C" fn bench_kt_pieces(message: &[u8], step: usize, out: &mut [u8]) -
 }
 
 // The same in one go.
-#[unsafe(no_mangle)]
-pub extern "C" fn bench_kt_one_go(message: &[u8], out: &mut [u8]) -> u8
+pub fn bench_kt_one_go(message: &[u8], out: &mut [u8]) -> u8
     ensures value { result ≡ hash_status (length message.now) 0 (length out.old) }
     ensures out_after { out.new ≡ hash_output 168 32 message.now [] out.old }
 {

@@ -1,10 +1,10 @@
-// What the benchmarks of bench/ call through the C calling convention.
+// What the benchmarks of bench/ time. The static library `bench_c` exports it through the C calling convention.
 #![tactic(auto)]
 
-mod fips;
-mod four;
-mod in_place;
-mod keyed;
+pub mod fips;
+pub mod four;
+pub mod in_place;
+pub mod keyed;
 pub mod kt;
 
 ghost use Rattle.std.specs.Prelude.{◌≡◌, min, length};
@@ -21,8 +21,7 @@ const DOMAIN: u8 = 0x1F;
 pub const BAD_STEP: u8 = 9;
 
 // Permutes the lanes `count` times.
-#[unsafe(no_mangle)]
-pub extern "C" fn bench_permute(lanes: &mut [u64; 25], count: usize)
+pub fn bench_permute(lanes: &mut [u64; 25], count: usize)
     ensures { lanes.new ≡ repeated count lanes.old }
 {
     let mut i: usize = 0;
@@ -39,8 +38,7 @@ pub fn least(x: usize, y: usize) -> usize
 }
 
 // TurboSHAKE128 of a message, with D = 1F, absorbed in pieces of `step` bytes and squeezed at once.
-#[unsafe(no_mangle)]
-pub extern "C" fn bench_pieces(message: &[u8], step: usize, out: &mut [u8]) -> u8
+pub fn bench_pieces(message: &[u8], step: usize, out: &mut [u8]) -> u8
     ensures value { result ≡ pieces_status turboshake_with1_f step (length message.now) (length out.old) }
     ensures out_after { out.new ≡ pieces_output turboshake_with1_f step message.now out.old }
 {
@@ -66,8 +64,7 @@ pub extern "C" fn bench_pieces(message: &[u8], step: usize, out: &mut [u8]) -> u
 }
 
 // The same in one go.
-#[unsafe(no_mangle)]
-pub extern "C" fn bench_one_go(message: &[u8], out: &mut [u8]) -> u8
+pub fn bench_one_go(message: &[u8], out: &mut [u8]) -> u8
     ensures value { result ≡ one_go_status (function 168) (length message.now) 0x1F (length out.old) }
     ensures out_after { out.new ≡ one_go_output (function 168) message.now 0x1F out.old }
 {
