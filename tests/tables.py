@@ -136,7 +136,7 @@ def times(folder):
         raise SystemExit(f"rt tells of {told} crates and edits, and there are {due}")
     return (
         f"## Check times\n\nOne run of the gate on {commit(ROOT)}, {machine()}: {passed} passed, {failed} failed, {total // 60} min {total % 60} s. "
-        f"{len(tried)} wrong versions were refused.\n\n"
+        f"Wrong versions refused: {len(tried)}.\n\n"
         + table(["part", "passed", "failed", "seconds"], [[name, *map(int, numbers)] for name, *numbers in parts])
         + "\n"
         + table(["crate", "proved after seconds"], [[name, "kept from an earlier run" if kept else round(float(at))] for at, name, kept in proved])

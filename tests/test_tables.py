@@ -89,7 +89,7 @@ class Times(unittest.TestCase):
     def test_times(self):
         head, _, run, rest = self.times.split("\n", 3)
         self.assertEqual(head, "## Check times")
-        self.assertRegex(run, r"^One run of the gate on \S.*, \d+ processors \(.*\): 21 passed, 1 failed, 11 min 1 s\. 1 wrong versions were refused\.$")
+        self.assertRegex(run, r"^One run of the gate on \S.*, \d+ processors \(.*\): 21 passed, 1 failed, 11 min 1 s\. Wrong versions refused: 1\.$")
         self.assertEqual(rest, TIMES)
 
     def test_all_are_told(self):
@@ -103,7 +103,7 @@ class Times(unittest.TestCase):
             (self.folder / "proofs.clock").write_text("\n".join(proofs + edits) + "\n")
             return tables.times(self.folder)
 
-        self.assertIn(f" {len(edits)} wrong versions were refused.\n", told(proofs, edits))
+        self.assertIn(f" Wrong versions refused: {len(edits)}.\n", told(proofs, edits))
         for fewer in ((proofs[1:], edits), (proofs, edits[:-1])):
             with self.assertRaises(SystemExit):
                 told(*fewer)
