@@ -5,7 +5,7 @@
 
 An edit is a file crates/NAME/must-fail/EDIT.edit. Each of its `old:` texts must stand exactly once in its file of src/ or specs/, as the pairs before it
 left it, and the file must differ from today's in the end. The edit says in a first line what is wrong with that version, and in a line `first error: FILE NAME`
-where it must be refused: both are comments, and FILE, a file of the crate's proofs/, must be there.
+where it must be refused: both are comments. FILE is the file of the crate's proofs/ with the answers of a function, or with the law NAME, which must be there.
 """
 import re
 import sys
@@ -45,8 +45,13 @@ def wrong(edit):
     if len(said) != 1 or not first:
         return "it has not one line on what is wrong, and one that begins '# first error: '"
     place, _, name = first.partition(" ")
-    if not place.startswith("proofs/") or not name or not (crate / place).is_file():
-        return f"its first error is in no file of the crate's proofs/: {first}"
+    if not re.fullmatch(r"proofs/[\w+/]+\.antt", place) or not name:
+        return f"its first error is in no file of proofs/: {first}"
+    # (the answers of a function need no file, where each goal is proved with none)
+    if place.rpartition("/")[2] not in ("Answers.antt", "Invariants.antt") and not (
+        (crate / place).is_file() and re.search(rf"^ *(?:\w+ )*{re.escape(name)} :", (crate / place).read_text(encoding="utf-8"), re.MULTILINE)
+    ):
+        return f"there is no such law: {first}"
     return None
 
 
