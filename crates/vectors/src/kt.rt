@@ -127,12 +127,19 @@ fn write_name(rt: &impl Print, function: KtFunction) -> io::Result<()> {
     }
 }
 
+// Writes the number and a space.
+fn write_number(rt: &impl Print, n: usize) -> io::Result<()> {
+    print!(rt; "{n} ")
+}
+
 // What was asked, up to the space before the digest.
 fn write_asked(rt: &impl Print, vector: KtVector, customization: usize) -> io::Result<()> {
     let function = vector.function;
     write_name(rt, function)?;
     write_kind(rt, vector.is_ff)?;
-    print!(rt; "{} {customization} {} ", vector.length, vector.asked)
+    write_number(rt, vector.length)?;
+    write_number(rt, customization)?;
+    write_number(rt, vector.asked)
 }
 
 // Writes what was asked, and the digest by a finalize.
