@@ -5,14 +5,7 @@ ghost use Rattle.sponge.specs.Transcript.{Call};
 ghost use Rattle.hasher.specs.Model.{fresh_of, numbers, answer_of, output_of, run_with, answered};
 ghost use Rattle.hasher.specs.declared.Run.{Run};
 
-use crate::{Moved, Progress, Run, in_place};
-
-// What a call on a run answers: the status, and the run, which is the one given where the status is not 0.
-#[derive(Clone, Copy)]
-pub struct HasherAnswer<H: Copy> {
-    pub hasher: H,
-    pub status: u8,
-}
+use crate::{HasherAnswer, Moved, Progress, Run, in_place};
 
 pub trait Hasher: Copy {
     ghost run_of: { Self → Run };

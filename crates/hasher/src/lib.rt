@@ -5,12 +5,14 @@
 mod calls;
 mod function;
 pub mod in_place;
+mod outcome;
 
 ghost use Rattle.std.specs.Prelude.{◌≡◌, length};
 ghost use Rattle.sponge.specs.Transcript.{Call};
 ghost use Rattle.hasher.specs.Model.{fresh_of, numbers, progress_of, run_with, answered, answer_of, output_of, hash_at_status, hash_at_output};
 
-pub use function::{Hasher, HasherAnswer};
+pub use function::Hasher;
+pub use outcome::{HasherAnswer, Refusal};
 use sponge::status;
 
 // The most bytes of a message.
