@@ -11,8 +11,7 @@ ghost use Rattle.std.specs.Prelude.{◌<◌, ◌≤◌, length};
 
 use fips202::{Fips202, Sha3_224, Sha3_256, Sha3_384, Sha3_512, Shake128, Shake256};
 use line::Statuses;
-use std::array;
-use std::io;
+use std::{array, io};
 use turboshake::{TurboShake, TurboShake128, TurboShake256};
 
 // TurboSHAKE's domain byte.
