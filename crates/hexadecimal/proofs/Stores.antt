@@ -1,11 +1,9 @@
 -- What `put` asks: the digits stored one after the other are the text that its contract names.
 -- Assumes nothing.
-use mathlib.Core.Path.{◌≡◌, refl, sym, ◌∙◌}
+use mathlib.Core.Path.{◌≡◌, refl}
 use mathlib.Core.List.{List, [], ◌∷◌}
-use Prim.Native.Nat.{ℕ, suc, ◌+◌, ◌-◌, ◌*◌, ◌/◌, ◌%◌, ◌≤◌, ◌<◌}
-use native.Mathlib.Decide.{dec_le}
+use Prim.Native.Nat.{ℕ, suc, ◌+◌, ◌*◌, ◌/◌, ◌%◌, ◌≤◌, ◌<◌}
 use native.Mathlib.Omega.{arith}
-use lib.Dec.{leb}
 use lib.ListN.{length, drop, get_or, set, drop_of_length-le}
 use lib.Seq.{sets, sets-eq, drop-cons}
 use borrow.Author.Tests.{le-leb, lt-leb}
@@ -45,11 +43,3 @@ put_all text at bytes h =
 pub put-none : (text : List ℕ) (at : ℕ) (bytes : List ℕ) → length text < at + 2 * length bytes → text ≡ with_hex text at bytes
 unfolding with_hex
 put-none text at bytes h = rw (lt-leb (at + 2 * length bytes) (length text) h)
-
--- n bytes have room where half of it holds n
-pub room : (size at n : ℕ) → at ≤ size → leb n ((size - at) / 2) ≡ leb (at + 2 * n) size
-room size at n h = by (dec_le n ((size - at) / 2))
-  where
-    by : Dec (n ≤ (size - at) / 2) → leb n ((size - at) / 2) ≡ leb (at + 2 * n) size
-    by (yes l) = le-leb n ((size - at) / 2) l ∙ sym (le-leb (at + 2 * n) size (omega arith))
-    by (no l) = lt-leb n ((size - at) / 2) (omega arith) ∙ sym (lt-leb (at + 2 * n) size (omega arith))

@@ -62,6 +62,14 @@ write_word l out p q i w h e ew t =
     let t7 : take (i + 7) o7 ≡ bytes_from l p (i + 7) = word_byte l o6 p q i 6 (w / 2 ^ 48 % 256) e (omega arith) (simp length-set (omega arith)) (byte 48) t6 in
     word_byte l o7 p q i 7 (w / 2 ^ 56 % 256) e (omega arith) (simp length-set (omega arith)) (byte 56) t7
 
+-- the same where w is the k-th word written
+pub write_next_word : (l out o : List ℕ) (p q k w : ℕ) → 8 * k + 8 ≤ length out → p + 8 * k ≡ 8 * q → w ≡ get_or l q 0 → o ≡ with_word out (8 * k) w
+    → take (8 * k) out ≡ bytes_from l p (8 * k) → take (8 * (k + 1)) o ≡ bytes_from l p (8 * (k + 1))
+write_next_word l out o p q k w h e ew eo t =
+    let next : 8 * k + 8 ≡ 8 * (k + 1) = omega arith in
+    ap (take (8 * (k + 1))) eo
+    ∙ subst (λ (n : ℕ). take n (with_word out (8 * k) w) ≡ bytes_from l p n) next (write_word l out p q (8 * k) w h e ew t)
+
 pub length-with_word : (s : List ℕ) (i w : ℕ) → length (with_word s i w) ≡ length s
 unfolding with_word
 length-with_word s i w = simp length-set

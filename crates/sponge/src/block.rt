@@ -87,15 +87,12 @@ fn xor_words(lanes: &mut [u64; 25], first: usize, s: &[u8])
     requires { 8 * first + length s.now ≤ 200 }
     ensures { lanes.new ≡ puts xor_byte lanes.old (8 * first) s.now }
 {
-    let mut q = first;
-    let mut i = 0;
-    while 8 <= s.len() - i {
-        lanes[q] = lanes[q] ^ word_at(s, i);
-        q += 1;
-        i += 8;
+    let words = s.len() / 8;
+    for q in 0..words {
+        lanes[first + q] = lanes[first + q] ^ word_at(s, 8 * q);
     }
-    if i < s.len() {
-        xor_bytes(lanes, 8 * q, &s[i..]);
+    if 8 * words < s.len() {
+        xor_bytes(lanes, 8 * (first + words), &s[8 * words..]);
     }
 }
 
@@ -143,10 +140,8 @@ fn read_bytes(lanes: &[u64; 25], at: usize, out: &mut [u8])
     requires { at + length out.old ≤ 200 }
     ensures { out.new ≡ bytes_from lanes.now at (length out.old) }
 {
-    let mut i = 0;
-    while i < out.len() {
-        out[i] = byte_of(lanes, at + i);
-        i += 1;
+    for (i, byte) in out.iter_mut().enumerate() {
+        *byte = byte_of(lanes, at + i);
     }
 }
 
@@ -155,14 +150,11 @@ fn read_words(lanes: &[u64; 25], first: usize, out: &mut [u8])
     requires { 8 * first + length out.old ≤ 200 }
     ensures { out.new ≡ bytes_from lanes.now (8 * first) (length out.old) }
 {
-    let mut q = first;
-    let mut i = 0;
-    while 8 <= out.len() - i {
-        put_word(out, i, lanes[q]);
-        q += 1;
-        i += 8;
+    let words = out.len() / 8;
+    for q in 0..words {
+        put_word(out, 8 * q, lanes[first + q]);
     }
-    read_bytes(lanes, 8 * q, &mut out[i..]);
+    read_bytes(lanes, 8 * (first + words), &mut out[8 * words..]);
 }
 
 // The same from any byte on.

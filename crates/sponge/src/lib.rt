@@ -23,16 +23,11 @@ pub struct Answer {
 }
 
 // A rate is 1 to 200, a position 0 to the rate.
+#[tactic(auto, unfolding(crate::specs::Model::valid))]
 fn is_valid(rate: usize, position: usize) -> bool
     ensures { result ≡ valid rate position }
 {
-    if rate < 1 {
-        return false;
-    }
-    if 200 < rate {
-        return false;
-    }
-    position <= rate
+    1 <= rate && rate <= 200 && position <= rate
 }
 
 // 16 for more than 24 rounds, then 5 for what is no rate or no position.
@@ -56,12 +51,6 @@ fn refused(number: u8, position: usize) -> Answer
         status: number,
         position,
     }
-}
-
-fn least(x: usize, y: usize) -> usize
-    ensures { result ≡ min x y }
-{
-    if x < y { x } else { y }
 }
 
 // Permutes a full block, and answers the position of the next byte.
@@ -92,7 +81,7 @@ fn absorb_blocks(
     let mut i = 0;
     while i < piece.len() {
         let at = next_position(lanes, p, rate, rounds);
-        let k = least(rate - at, piece.len() - i);
+        let k = (rate - at).min(piece.len() - i);
         block::xor_part(lanes, at, &piece[i..i + k]);
         p = at + k;
         i += k;
@@ -138,7 +127,7 @@ fn squeeze_blocks(
     let mut i = 0;
     while i < out.len() {
         let at = next_position(lanes, p, rate, rounds);
-        let k = least(rate - at, out.len() - i);
+        let k = (rate - at).min(out.len() - i);
         block::read_part(lanes, at, &mut out[i..i + k]);
         p = at + k;
         i += k;

@@ -16,14 +16,11 @@ loop-i-init c = (omega arith, omega arith, refl)
 pub next_position-at-requires : goal.next_position-at-requires
 next_position-at-requires c = (omega arith, omega arith)
 
-pub least-k-requires : goal.least-k-requires
-least-k-requires c = tt
-
 pub loop-i-preserved : goal.loop-i-preserved
 loop-i-preserved c =
     let a = c.args in
     let r = c.next_position-at in
-    let k = c.least-k.result in
+    let k = c.min-k.result in
     let e : c.loop-i.i + k - c.loop-i.i ≡ k = omega arith in (
       omega arith,
       omega arith,
