@@ -5,7 +5,7 @@ pub returns-then-not-numbers : goal.returns-then-not-numbers
 returns-then-not-numbers c =
     record {
       result_after = rw (not-true c.args.numbers.says c.if-not-numbers.true);
-      upper_bound = c.requires.1;
+      upper_bound = c.requires.0;
     }
 
 pub returns : goal.returns

@@ -38,7 +38,7 @@ closed_own-own-requires c =
     let z = c.read_limit in
     let f = kept_few (given a.numbers) a.keyed.length (sym b.ensures ∙ c.if-not-keeps_length.false) in
     let few : z.result ≤ long_output = subst (λ (m : ℕ). m ≤ long_output) (sym z.ensures) f.1 in
-    (c.requires.0, f.0, c.requires.1, omega (arith, few, c.if-read_limit-run.false))
+    (f.0, c.requires, omega (arith, few, c.if-read_limit-run.false))
 
 pub blocks_fit-requires : goal.blocks_fit-requires
 blocks_fit-requires c =
@@ -47,7 +47,7 @@ blocks_fit-requires c =
     let z = c.read_limit in
     let f = kept_few (given a.numbers) a.keyed.length (sym b.ensures ∙ c.if-not-keeps_length.false) in
     let few : z.result ≤ long_output = subst (λ (m : ℕ). m ≤ long_output) (sym z.ensures) f.1 in
-    (c.requires.0, omega (arith, few, c.if-read_limit-run.false, c.closed_own-own.ensures.1, c.requires.1))
+    omega (arith, few, c.if-read_limit-run.false, c.closed_own-own.ensures.1, c.requires)
 
 pub returns : goal.returns
 returns c =
