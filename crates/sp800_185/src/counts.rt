@@ -134,6 +134,7 @@ fn is_closed(numbers: Numbers, keyed: Keyed) -> bool
 }
 
 // Whether some start within the limits, and calls after it, reach a run with this phase, these totals, this position and these permutations.
+#[tactic(auto, unfolding(crate::specs::Model::reachable))]
 pub(crate) fn is_reachable(numbers: Numbers, keyed: Keyed) -> bool
     ensures { result ≡ reachable (given numbers) numbers.least numbers.most keyed.run.position keyed.length keyed.run.phase keyed.run.absorbed keyed.run.squeezed keyed.run.permutations }
 {

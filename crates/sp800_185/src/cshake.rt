@@ -20,6 +20,7 @@ fn both_empty(name: &[u8], string: &[u8]) -> bool
     false
 }
 
+#[tactic(auto, unfolding(crate::specs::Cshake::start_status))]
 fn start_status(name: u64, string: u64) -> u8
     ensures { result ≡ start_status name string }
 {

@@ -13,6 +13,7 @@ use crate::{Answer, Keyed, Kmac128, Kmac256, STRING_LIMIT, calls, no_run, prefix
 use hasher::{HasherAnswer, MESSAGE_LIMIT, Run};
 use sponge::status;
 
+#[tactic(auto, unfolding(crate::specs::Kmac::start_status))]
 fn start_status(key: u64, string: u64) -> u8
     ensures { result ≡ start_status key string }
 {
@@ -25,6 +26,7 @@ fn start_status(key: u64, string: u64) -> u8
     status::DONE
 }
 
+#[tactic(auto, unfolding(crate::specs::Kmac::start_answer))]
 pub(crate) fn start(rate: usize, key: &[u8], string: &[u8]) -> Answer
     requires { (0 < rate) × (rate ≤ 200) }
     ensures { result ≡ start_answer rate key.now string.now }
