@@ -39,9 +39,12 @@ pub trait CShake: Copy {
     // Whether it is a run of SHAKE: both strings of its start were empty.
     ghost shake_of: { Self → Bool };
 
+    // The rate and the capacity, in bytes.
     ghost RATE: { ℕ };
 
     const RATE: usize;
+
+    ghost CAPACITY: { ℕ };
 
     const CAPACITY: usize;
 
@@ -112,14 +115,7 @@ pub trait CShake: Copy {
     {
         let run = self.run();
         if self.shake() {
-            let hashed = hasher::finalize(
-                Self::RATE,
-                ROUNDS,
-                LONG_OUTPUT,
-                run,
-                status::DONE,
-                SHAKE_LAST,
-            );
+            let hashed = hasher::finalize(Self::RATE, ROUNDS, LONG_OUTPUT, run, status::DONE, SHAKE_LAST);
             return HasherAnswer {
                 hasher: Self::from_run(hashed.run, true),
                 status: hashed.status,
@@ -166,15 +162,7 @@ pub trait CShake: Copy {
             return number;
         }
         if both_empty(name, string) {
-            return hasher::hash(
-                Self::RATE,
-                ROUNDS,
-                LONG_OUTPUT,
-                message,
-                status::DONE,
-                SHAKE_LAST,
-                out,
-            );
+            return hasher::hash(Self::RATE, ROUNDS, LONG_OUTPUT, message, status::DONE, SHAKE_LAST, out);
         }
         let numbers = Numbers::cshake(Self::RATE, Self::PREFIX_BLOCKS);
         let run = prefix::cshake_start(Self::RATE, name, string);
@@ -192,6 +180,8 @@ impl CShake for CShake128 {
     ghost RATE = { 168 };
 
     const RATE: usize = 168;
+
+    ghost CAPACITY = { 32 };
 
     const CAPACITY: usize = 32;
 
@@ -222,6 +212,8 @@ impl CShake for CShake256 {
     ghost RATE = { 136 };
 
     const RATE: usize = 136;
+
+    ghost CAPACITY = { 64 };
 
     const CAPACITY: usize = 64;
 
