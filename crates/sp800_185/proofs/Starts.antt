@@ -1,17 +1,8 @@
 -- What a start answers, by its status and by whether both strings are empty.
 -- Assumes nothing.
-use mathlib.Core.Path.{◌≡◌, refl, ap, ◌∙◌}
-use mathlib.Core.List.{List, [], ◌∷◌, ◌++◌}
-use mathlib.Core.Bool.{true, false}
-use Prim.Native.Nat.{ℕ, zero, suc, ◌≤◌}
-use native.Mathlib.Omega.{arith}
-use lib.ListN.{length}
-use lib.Dec.{eqb}
-use borrow.Author.Tests.{ne_eqb}
-use Rattle.hasher.specs.Model.{fresh_of}
-use Rattle.hasher.specs.declared.Run.{Run}
-use Rattle.sp800_185.specs.Published.{encode_string, bytepad, both_empty, cshake_prefix}
-use Rattle.sp800_185.specs.Start.{string_limit, key_limit, kmac_prefix, start_run, no_run}
+use mathlib.Core.Path.{◌≡◌}
+use Prim.Native.Nat.{ℕ, ◌≤◌}
+use Rattle.sp800_185.specs.Start.{string_limit, key_limit}
 use Rattle.sp800_185.specs.Cshake as cshake
 use Rattle.sp800_185.specs.Kmac as kmac
 use Rattle.sp800_185.specs.Cshake.{Customized}

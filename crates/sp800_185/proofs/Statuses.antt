@@ -1,12 +1,12 @@
 -- The statuses of a start and of a call in one go by their cases, and what is within the limits where the status is 0.
 -- Assumes nothing.
-use mathlib.Core.Path.{◌≡◌, sym}
+use mathlib.Core.Path.{◌≡◌}
 use mathlib.Core.Bool.{cond}
-use Prim.Native.Nat.{ℕ, suc, ◌≤◌, ◌<◌}
+use Prim.Native.Nat.{ℕ, suc, ◌≤◌}
 use lib.Dec.{leb}
-use borrow.Author.Tests.{eq-eqb, ne_eqb, le-leb, lt-leb, leb-true}
+use borrow.Author.Tests.{le-leb, leb-true}
 use Rattle.sponge.specs.Status.{done, input_too_long, first_of}
-use Rattle.sponge.proofs.FirstStatus.{first_refused, first_zero}
+use Rattle.sponge.proofs.FirstStatus.{first_zero}
 use Rattle.sponge.proofs.Streaming.{cond-zero}
 use Rattle.hasher.specs.Function.{message_limit, long_output}
 use Rattle.sp800_185.specs.Function.{length_status, whole_status}

@@ -115,7 +115,14 @@ pub trait CShake: Copy {
     {
         let run = self.run();
         if self.shake() {
-            let hashed = hasher::finalize(Self::RATE, ROUNDS, LONG_OUTPUT, run, status::DONE, SHAKE_LAST);
+            let hashed = hasher::finalize(
+                Self::RATE,
+                ROUNDS,
+                LONG_OUTPUT,
+                run,
+                status::DONE,
+                SHAKE_LAST,
+            );
             return HasherAnswer {
                 hasher: Self::from_run(hashed.run, true),
                 status: hashed.status,
@@ -162,7 +169,15 @@ pub trait CShake: Copy {
             return number;
         }
         if both_empty(name, string) {
-            return hasher::hash(Self::RATE, ROUNDS, LONG_OUTPUT, message, status::DONE, SHAKE_LAST, out);
+            return hasher::hash(
+                Self::RATE,
+                ROUNDS,
+                LONG_OUTPUT,
+                message,
+                status::DONE,
+                SHAKE_LAST,
+                out,
+            );
         }
         let numbers = Numbers::cshake(Self::RATE, Self::PREFIX_BLOCKS);
         let run = prefix::cshake_start(Self::RATE, name, string);
