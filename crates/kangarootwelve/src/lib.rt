@@ -1,8 +1,8 @@
 // KT128 and KT256: draft-irtf-cfrg-kangarootwelve-16, section 3, in one go and in pieces. HopMAC128 and HopMAC256, section 4, in one go,
 // and their tag check.
 //
-// A type for each strength, whose calls are those of the traits `Kt` and `HopMac`, over the rate, the length of a chaining value and that of an inner
-// digest.
+// A type for each strength, whose calls are those of the traits `Kt` and `HopMac`. What they call takes a `Strength`, the rate and the length of a chaining
+// value.
 #![tactic(auto)]
 
 mod calls;
@@ -16,7 +16,7 @@ mod reached;
 mod totals;
 mod tree;
 
-ghost use Rattle.std.specs.Prelude.{◌≡◌};
+ghost use Rattle.std.specs.Prelude.{◌≡◌, ◌<◌, ◌≤◌, ◌%◌};
 ghost use Rattle.kangarootwelve.specs.Model.{encoding_of};
 ghost use Rattle.kangarootwelve.specs.Mac.{same_bytes};
 
@@ -68,6 +68,14 @@ pub struct Run {
     pub customized: u64,
     pub squeezed: u64,
     pub permutations: u64,
+}
+
+// What the strengths differ in: the rate and the length of a chaining value, in bytes. Both are whole words, and a value fits a block.
+#[derive(Clone, Copy)]
+struct Strength {
+    rate: usize,
+    chaining: usize,
+    ghost bounds: { (0 < rate) × (rate ≤ 200) × (rate % 8 ≡ 0) × (0 < chaining) × (chaining ≤ 64) × (chaining % 8 ≡ 0) × (chaining ≤ rate) },
 }
 
 // What a run holds beside its lanes: the two positions, the phase, the totals and the permutations.
