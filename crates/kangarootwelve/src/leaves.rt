@@ -53,10 +53,8 @@ fn xor_bytes(states: &mut [u64], at: usize, b: u8)
     requires { (length states.old ≡ 100) × (at < 200) }
     ensures { Each (λ _ l. xor_byte l at b) states.old states.new }
 {
-    let mut j: usize = 0;
-    while j < 4 {
+    for j in 0..4 {
         xor_byte(states, j, at, b);
-        j += 1;
     }
 }
 
@@ -90,10 +88,8 @@ fn state(states: &[u64], j: usize) -> [u64; 25]
     ensures { result ≡ state_at j states.now }
 {
     let mut lanes = [0u64; 25];
-    let mut i: usize = 0;
-    while i < 25 {
+    for i in 0..25 {
         lanes[i] = states[4 * i + j];
-        i += 1;
     }
     lanes
 }
@@ -113,12 +109,10 @@ fn absorb_values(
     ensures result_after { record { value = node.new; position = result } ≡ absorb_bytes permuted strength.rate (record { value = node.old; position = position }) (states_bytes (length value.entry.now) states.now count 0) }
 {
     let mut p = position;
-    let mut j: usize = 0;
-    while j < count {
+    for j in 0..count {
         let read = sponge::four::read(states, j, value);
         let absorbed = sponge::absorb(node, p, strength.rate, turboshake::ROUNDS, value);
         p = absorbed.position;
-        j += 1;
     }
     p
 }

@@ -87,11 +87,9 @@ fn absorb_chunks(strength: Strength, node: &mut [u64; 25], message: &[u8], count
     ensures count_after { record { final = record { value = node.new; position = result }; leaf = fresh; index = count } ≡ ended_chunks strength.rate strength.chaining count (record { final = record { value = node.old; position = 0 }; leaf = fresh; index = 0 }) message.now }
 {
     let mut p = 0;
-    let mut i = 0;
-    while i < count {
+    for i in 0..count {
         let from = i * tree::CHUNK;
         p = absorb_chunk(strength, node, p, i, &message[from..from + tree::CHUNK]);
-        i += 1;
     }
     p
 }
