@@ -103,10 +103,8 @@ pub(crate) fn is_same(expected: &[u8], presented: &[u8]) -> bool
     ensures { result ≡ same_bytes expected.now presented.now }
 {
     let mut difference = 0u8;
-    let mut i = 0;
-    while i < expected.len() {
-        difference = gather(difference, expected[i], presented[i]);
-        i += 1;
+    for (x, y) in expected.iter().zip(presented) {
+        difference = gather(difference, *x, *y);
     }
     difference == 0
 }

@@ -25,7 +25,7 @@ fn absorb_chunks(states: &mut [u64], strength: Strength, chunks: &[u8]) -> usize
     let mut i = strength.rate;
     while i < tree::CHUNK {
         let full = abreast::permute_in_place(states, turboshake::ROUNDS);
-        p = tree::least(strength.rate, tree::CHUNK - i);
+        p = strength.rate.min(tree::CHUNK - i);
         let next = sponge::four::xor_block(states, chunks, i, p);
         i += p;
     }

@@ -1,6 +1,6 @@
 // The tree over lent lanes: S goes into the final node and the leaf in hand, a chunk at a time. The sponge's calls get positions within
 // their blocks here, so each is proved to answer 0, and no status is looked at.
-ghost use Rattle.std.specs.Prelude.{◌≡◌, ◌<◌, ◌≤◌, ◌+◌, ◌^◌, min, length};
+ghost use Rattle.std.specs.Prelude.{◌≡◌, ◌<◌, ◌≤◌, ◌+◌, ◌^◌, length};
 ghost use Rattle.keccak.specs.Permutation.{permuted};
 ghost use Rattle.sponge.specs.Waiting.{ready};
 ghost use Rattle.sponge.specs.Model.{absorb_bytes, pad, squeeze_bytes};
@@ -23,12 +23,6 @@ pub(crate) const SINGLE_NODE: u8 = 0x07;
 pub(crate) const INTERMEDIATE_NODE: u8 = 0x0B;
 
 pub(crate) const FINAL_NODE: u8 = 0x06;
-
-pub(crate) fn least(x: usize, y: usize) -> usize
-    ensures { result ≡ min x y }
-{
-    if x < y { x } else { y }
-}
 
 // Absorbs the chaining value of the leaf, as long as `value`, into the final node, and answers the final node's position.
 fn absorb_value(
@@ -153,7 +147,7 @@ pub(crate) fn absorb(
     let mut i = 0;
     while i < piece.len() {
         let next = next_byte(strength, node, leaf, place);
-        let k = least(CHUNK - next.position, piece.len() - i);
+        let k = (CHUNK - next.position).min(piece.len() - i);
         place = absorb_part(strength, node, leaf, next, &piece[i..i + k]);
         i += k;
     }

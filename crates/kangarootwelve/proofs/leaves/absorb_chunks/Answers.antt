@@ -23,7 +23,7 @@ pub loop-i-preserved : goal.loop-i-preserved
 loop-i-preserved c =
     let rate = c.args.strength.rate in
     let i = c.loop-i.i in
-    let n = c.least-p.result in
+    let n = c.min-p.result in
     let hi : i < 8192 = c.loop-i-test.true in
     let hn : n ≤ rate = omega arith in
     let whole : n % 8 ≡ 0 = omega arith in

@@ -24,15 +24,15 @@ overflow_sub-next c =
     (next_fits c.args.strength.rate c.args.strength.bounds.0 c.args.strength.chaining (tree_of c.loop-i.node c.loop-i.leaf c.loop-i.place) c.loop-i.invariant.2)) in
     let n = (next).inside in omega (arith, chunk_is)
 
-pub least-k-requires : goal.least-k-requires
-least-k-requires c = tt
+pub min-k-requires : goal.min-k-requires
+min-k-requires c = tt
 
 pub absorb_part-place-requires : goal.absorb_part-place-requires
 absorb_part-place-requires c =
     let next : (Next c.args.strength.rate c.args.strength.bounds.0 c.args.strength.chaining (tree_of c.loop-i.node c.loop-i.leaf c.loop-i.place) (tree_of c.next_byte-next.new.node c.next_byte-next.new.leaf c.next_byte-next.result)) = (subst (Next c.args.strength.rate c.args.strength.bounds.0 c.args.strength.chaining (tree_of c.loop-i.node c.loop-i.leaf c.loop-i.place)) (sym c.next_byte-next.ensures)
     (next_fits c.args.strength.rate c.args.strength.bounds.0 c.args.strength.chaining (tree_of c.loop-i.node c.loop-i.leaf c.loop-i.place) c.loop-i.invariant.2)) in
     let n = next in
-    let k = c.least-k.result in
+    let k = c.min-k.result in
     let w : length (take (c.loop-i.i + k - c.loop-i.i) (drop c.loop-i.i c.args.piece.now)) ≡ k = part_length c.args.strength.rate c.args.strength.bounds.0 c.args.piece.now c.loop-i.i k (omega arith) in
     (n.fits, omega (arith, n.inside, chunk_is))
 
@@ -49,7 +49,7 @@ loop-i-preserved c =
     let n = next in
     let p = c.args.piece.now in
     let i = c.loop-i.i in
-    let k = c.least-k.result in
+    let k = c.min-k.result in
     let t = tree_of c.loop-i.node c.loop-i.leaf c.loop-i.place in
     let u = tree_of c.next_byte-next.new.node c.next_byte-next.new.leaf c.next_byte-next.result in
     let w = c.absorb_part-place.ensures ∙ part_is c.args.strength.rate c.args.strength.bounds.0 u p i k (omega arith) in
