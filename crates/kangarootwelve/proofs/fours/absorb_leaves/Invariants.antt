@@ -10,8 +10,8 @@ use Rattle.kangarootwelve.proofs.fours.absorb_leaves.Given as goal
 
 abbrev pub invariant-loop-i : goal.invariant-loop-i
 invariant-loop-i l =
-    (l.i < length l.chunks) × (l.place.index ≤ l.initial.place.index + l.i) × (0 < l.place.index) × (l.place.node ≤ l.rate) × (l.place.leaf ≡ 0) × (l.place.position ≡ 0) × (l.states ≡ cleared)
-    × (length l.value ≡ length l.initial.value) × (absorb_tree l.rate l.chaining (tree_of l.node l.leaf l.place) (drop l.i l.chunks) ≡ absorb_tree l.rate l.chaining (tree_of l.initial.node l.leaf l.initial.place) l.chunks)
+    (l.i < length l.chunks) × (l.place.index ≤ l.initial.place.index + l.i) × (0 < l.place.index) × (l.place.node ≤ l.strength.rate) × (l.place.leaf ≡ 0) × (l.place.position ≡ 0) × (l.states ≡ cleared)
+    × (length l.value ≡ length l.initial.value) × (absorb_tree l.strength.rate l.strength.chaining (tree_of l.node l.leaf l.place) (drop l.i l.chunks) ≡ absorb_tree l.strength.rate l.strength.chaining (tree_of l.initial.node l.leaf l.initial.place) l.chunks)
 
 abbrev pub decreases-loop-i : goal.decreases-loop-i
 decreases-loop-i l = length l.chunks - l.i

@@ -7,8 +7,8 @@ use Rattle.kangarootwelve.proofs.tree.absorb.Given as goal
 
 abbrev pub invariant-loop-i : goal.invariant-loop-i
 invariant-loop-i l =
-    (l.i ≤ length l.piece) × (l.place.index ≤ l.initial.place.index + l.i) × Fits l.rate (tree_of l.node l.leaf l.place)
-    × (absorb_tree l.rate l.chaining (tree_of l.node l.leaf l.place) (drop l.i l.piece) ≡ absorb_tree l.rate l.chaining (tree_of l.initial.node l.initial.leaf l.initial.place) l.piece)
+    (l.i ≤ length l.piece) × (l.place.index ≤ l.initial.place.index + l.i) × Fits l.strength.rate (tree_of l.node l.leaf l.place)
+    × (absorb_tree l.strength.rate l.strength.chaining (tree_of l.node l.leaf l.place) (drop l.i l.piece) ≡ absorb_tree l.strength.rate l.strength.chaining (tree_of l.initial.node l.initial.leaf l.initial.place) l.piece)
 
 abbrev pub decreases-loop-i : goal.decreases-loop-i
 decreases-loop-i l = length l.piece - l.i

@@ -11,5 +11,5 @@ returns c =
     let n = c.length_encode-start in
     let t = tree_of a.node.now a.leaf.now a.at in
     c.close.ensures
-    ∙ ap (λ (u : At Tree). close_tree a.rate a.chaining u.value)
-    (c.absorb-whole.ensures.result_after ∙ ap (absorb_tree a.rate a.chaining t) (encoded_part n.result a.length n.new.encoded n.auto.encoded n.ensures.encoded_after))
+    ∙ ap (λ (u : At Tree). close_tree a.strength.rate a.strength.chaining u.value)
+    (c.absorb-whole.ensures.result_after ∙ ap (absorb_tree a.strength.rate a.strength.chaining t) (encoded_part n.result a.length n.new.encoded n.auto.encoded n.ensures.encoded_after))
