@@ -7,7 +7,7 @@ ghost use Rattle.std.specs.Prelude.{◌≤◌};
 
 use crate::line::write_answer;
 use crate::pieces::{Pieces, Refused, accepted};
-use crate::{fill, output_length, pattern};
+use crate::{fill, output_lengths, pattern};
 use functions::kt::{KtAnswer, KtFunction};
 use kangarootwelve::{Kt128, Kt256, Run};
 use std::io;
@@ -168,8 +168,8 @@ fn write_outputs(
 ) -> io::Result<()>
     requires { (2 ≤ rate) × (rate ≤ 168) }
 {
-    for i in 0..7 {
-        write_line(rt, function, message, b"", output_length(rate, i))?;
+    for asked in output_lengths(rate) {
+        write_line(rt, function, message, b"", asked)?;
     }
     Ok(())
 }

@@ -8,7 +8,7 @@ mod kt;
 mod line;
 mod pieces;
 
-ghost use Rattle.std.specs.Prelude.{◌≤◌};
+ghost use Rattle.std.specs.Prelude.{◌≤◌, All};
 
 use functions::Function;
 use hasher::{Answer, Run};
@@ -144,28 +144,27 @@ fn write_messages(rt: &impl Print, turboshake: TurboShake, buffer: &[u8]) -> io:
 
 fn write_outputs(rt: &impl Print, turboshake: TurboShake, buffer: &[u8]) -> io::Result<()> {
     let rate = turboshake.rate();
-    for i in 0..7 {
-        let asked = output_length(rate, i);
+    for asked in output_lengths(rate) {
         write_both(rt, turboshake, b"", DOMAIN, asked)?;
         write_both(rt, turboshake, pattern(buffer, rate), DOMAIN, asked)?;
     }
     Ok(())
 }
 
-// The i-th output length.
-fn output_length(rate: usize, i: usize) -> usize
+// What is asked around the ends of the first two blocks.
+fn output_lengths(rate: usize) -> [usize; 7]
     requires { (2 ≤ rate) × (rate ≤ 168) }
-    ensures { result ≤ 337 }
+    ensures { All (λ n. n ≤ 337) result }
 {
-    match i {
-        0 => 1,
-        1 => rate - 1,
-        2 => rate,
-        3 => rate + 1,
-        4 => 2 * rate - 1,
-        5 => 2 * rate,
-        _ => 2 * rate + 1,
-    }
+    [
+        1,
+        rate - 1,
+        rate,
+        rate + 1,
+        2 * rate - 1,
+        2 * rate,
+        2 * rate + 1,
+    ]
 }
 
 fn write_domains(rt: &impl Print, turboshake: TurboShake, message: &[u8]) -> io::Result<()> {
