@@ -9,7 +9,7 @@ use Rattle.sponge.specs.Waiting.{position_after}
 use Rattle.sponge.specs.Count.{open_count, closed_count}
 use Rattle.hasher.specs.Function.{message_limit}
 use Rattle.hasher.specs.Model.{reachable}
-use Rattle.hasher.proofs.calls.is_reachable.Goals as goal
+use Rattle.hasher.proofs.calls.Taken.is_reachable.Goals as goal
 
 -- each test's answer, by the phase
 module _ (rate limit position absorbed squeezed permutations : ℕ) where
@@ -54,18 +54,18 @@ module _ (rate limit position absorbed squeezed permutations : ℕ) where
 pub returns-then-at-gt-MESSAGE_LIMIT : goal.returns-then-at-gt-MESSAGE_LIMIT
 returns-then-at-gt-MESSAGE_LIMIT c =
     let at = c.args.at in
-    too_long c.args.rate c.args.limit at.position at.absorbed at.squeezed at.permutations at.phase (omega (arith, c.if-at-gt-MESSAGE_LIMIT.true))
+    too_long c.args.self.rate c.args.self.limit at.position at.absorbed at.squeezed at.permutations at.phase (omega (arith, c.if-at-gt-MESSAGE_LIMIT.true))
 
 pub returns-then-at-gt-SQUEEZING : goal.returns-then-at-gt-SQUEEZING
 returns-then-at-gt-SQUEEZING c =
     let at = c.args.at in
-    no_phase c.args.rate c.args.limit at.position at.absorbed at.squeezed at.permutations (omega (arith, c.if-at-gt-MESSAGE_LIMIT.false)) at.phase (omega (arith, c.if-at-gt-SQUEEZING.true))
+    no_phase c.args.self.rate c.args.self.limit at.position at.absorbed at.squeezed at.permutations (omega (arith, c.if-at-gt-MESSAGE_LIMIT.false)) at.phase (omega (arith, c.if-at-gt-SQUEEZING.true))
 
 pub returns-then-most_squeezed-at : goal.returns-then-most_squeezed-at
 returns-then-most_squeezed-at c =
     let most = c.most_squeezed in
     let at = c.args.at in
-    too_much c.args.rate c.args.limit at.position at.absorbed at.squeezed at.permutations (omega (arith, c.if-at-gt-MESSAGE_LIMIT.false)) at.phase most.result (omega (arith, c.if-at-gt-SQUEEZING.false)) most.ensures.0 (omega (arith, c.if-most_squeezed-at.true))
+    too_much c.args.self.rate c.args.self.limit at.position at.absorbed at.squeezed at.permutations (omega (arith, c.if-at-gt-MESSAGE_LIMIT.false)) at.phase most.result (omega (arith, c.if-at-gt-SQUEEZING.false)) most.ensures.0 (omega (arith, c.if-most_squeezed-at.true))
 
 pub returns-then-at-position_after : goal.returns-then-at-position_after
 returns-then-at-position_after c =
@@ -73,7 +73,7 @@ returns-then-at-position_after c =
     let total = c.total_in_hand-n in
     let most = c.most_squeezed in
     let at = c.args.at in
-    elsewhere c.args.rate c.args.limit at.position at.absorbed at.squeezed at.permutations (omega (arith, c.if-at-gt-MESSAGE_LIMIT.false)) at.phase most.result total.result place.result (omega (arith, c.if-at-gt-SQUEEZING.false)) most.ensures.0 (omega (arith, c.if-most_squeezed-at.false)) total.ensures.0 place.ensures c.if-at-position_after.true
+    elsewhere c.args.self.rate c.args.self.limit at.position at.absorbed at.squeezed at.permutations (omega (arith, c.if-at-gt-MESSAGE_LIMIT.false)) at.phase most.result total.result place.result (omega (arith, c.if-at-gt-SQUEEZING.false)) most.ensures.0 (omega (arith, c.if-most_squeezed-at.false)) total.ensures.0 place.ensures c.if-at-position_after.true
 
 pub overflow_add-result : goal.overflow_add-result
 overflow_add-result c =
@@ -90,4 +90,4 @@ returns c =
     let total = c.total_in_hand-n in
     let most = c.most_squeezed in
     let at = c.args.at in
-    by_count c.args.rate c.args.limit at.position at.absorbed at.squeezed at.permutations (omega (arith, c.if-at-gt-MESSAGE_LIMIT.false)) at.phase most.result total.result place.result k.result j.result (omega (arith, c.if-at-gt-SQUEEZING.false)) most.ensures.0 (omega (arith, c.if-most_squeezed-at.false)) total.ensures.0 place.ensures c.if-at-position_after.false k.ensures.0 j.ensures.0
+    by_count c.args.self.rate c.args.self.limit at.position at.absorbed at.squeezed at.permutations (omega (arith, c.if-at-gt-MESSAGE_LIMIT.false)) at.phase most.result total.result place.result k.result j.result (omega (arith, c.if-at-gt-SQUEEZING.false)) most.ensures.0 (omega (arith, c.if-most_squeezed-at.false)) total.ensures.0 place.ensures c.if-at-position_after.false k.ensures.0 j.ensures.0
