@@ -6,9 +6,10 @@
 ghost use Rattle.std.specs.Prelude.{◌≤◌};
 
 use crate::line::write_answer;
-use crate::pieces::{Pieces, Refused, accepted};
+use crate::pieces::{Pieces, done};
 use crate::{fill, output_lengths, pattern};
 use functions::kt::{KtAnswer, KtFunction};
+use hasher::Refusal;
 use kangarootwelve::{Kt128, Kt256, Run};
 use std::io;
 
@@ -66,22 +67,22 @@ struct KtRun<'a> {
 }
 
 impl KtRun<'_> {
-    fn keep(&mut self, answer: KtAnswer) -> Result<(), Refused> {
+    fn keep(&mut self, answer: KtAnswer) -> Result<(), Refusal> {
         self.run = answer.run;
-        accepted(answer.status)
+        done(answer.status)
     }
 }
 
 impl Pieces for KtRun<'_> {
-    fn absorb(&mut self, piece: &[u8]) -> Result<(), Refused> {
+    fn absorb(&mut self, piece: &[u8]) -> Result<(), Refusal> {
         self.keep(functions::kt::absorb(self.function, self.run, piece))
     }
 
-    fn finalize(&mut self) -> Result<(), Refused> {
+    fn finalize(&mut self) -> Result<(), Refusal> {
         self.keep(functions::kt::finalize(self.function, self.run, self.customization))
     }
 
-    fn squeeze(&mut self, out: &mut [u8]) -> Result<(), Refused> {
+    fn squeeze(&mut self, out: &mut [u8]) -> Result<(), Refusal> {
         self.keep(functions::kt::squeeze(self.function, self.run, out))
     }
 }

@@ -11,9 +11,9 @@ mod pieces;
 ghost use Rattle.std.specs.Prelude.{◌≤◌, All};
 
 use functions::Function;
-use hasher::{Answer, Run};
+use hasher::{Answer, Refusal, Run};
 use line::{LONGEST, write_answer};
-use pieces::{Pieces, Refused, accepted};
+use pieces::{Pieces, done};
 use std::{fmt, io};
 use turboshake::{TurboShake128, TurboShake256};
 
@@ -64,22 +64,22 @@ struct TurboShakeRun {
 }
 
 impl TurboShakeRun {
-    fn keep(&mut self, answer: Answer) -> Result<(), Refused> {
+    fn keep(&mut self, answer: Answer) -> Result<(), Refusal> {
         self.run = answer.run;
-        accepted(answer.status)
+        done(answer.status)
     }
 }
 
 impl Pieces for TurboShakeRun {
-    fn absorb(&mut self, piece: &[u8]) -> Result<(), Refused> {
+    fn absorb(&mut self, piece: &[u8]) -> Result<(), Refusal> {
         self.keep(functions::absorb(self.function, self.run, piece))
     }
 
-    fn finalize(&mut self) -> Result<(), Refused> {
+    fn finalize(&mut self) -> Result<(), Refusal> {
         self.keep(functions::finalize(self.function, self.run, self.domain))
     }
 
-    fn squeeze(&mut self, out: &mut [u8]) -> Result<(), Refused> {
+    fn squeeze(&mut self, out: &mut [u8]) -> Result<(), Refusal> {
         self.keep(functions::squeeze(self.function, self.run, out))
     }
 }

@@ -1,31 +1,24 @@
 // A run that is fed and read in small pieces, whichever function it is of.
+use hasher::{HasherAnswer, Refusal};
 use sponge::status::DONE;
 
 const PIECE: usize = 7;
 
 const OUTPUT_PIECE: usize = 5;
 
-// The number of a call that was refused.
-#[derive(Clone, Copy)]
-pub struct Refused(u8);
-
-pub fn accepted(status: u8) -> Result<(), Refused> {
-    if status == DONE {
-        Ok(())
-    } else {
-        Err(Refused(status))
-    }
+pub fn done(status: u8) -> Result<(), Refusal> {
+    HasherAnswer { hasher: (), status }.done()
 }
 
 pub trait Pieces {
-    fn absorb(&mut self, piece: &[u8]) -> Result<(), Refused>;
+    fn absorb(&mut self, piece: &[u8]) -> Result<(), Refusal>;
 
     // Ends the message, with what the run was made to give there.
-    fn finalize(&mut self) -> Result<(), Refused>;
+    fn finalize(&mut self) -> Result<(), Refusal>;
 
-    fn squeeze(&mut self, out: &mut [u8]) -> Result<(), Refused>;
+    fn squeeze(&mut self, out: &mut [u8]) -> Result<(), Refusal>;
 
-    fn squeeze_pieces(&mut self, out: &mut [u8]) -> Result<(), Refused> {
+    fn squeeze_pieces(&mut self, out: &mut [u8]) -> Result<(), Refusal> {
         for piece in out.chunks_mut(OUTPUT_PIECE) {
             self.squeeze(piece)?;
         }
@@ -33,7 +26,7 @@ pub trait Pieces {
     }
 
     // A squeeze is tried after a refused finalize too: it must leave `out` as it is.
-    fn hash_pieces(&mut self, message: &[u8], out: &mut [u8]) -> Result<(), Refused> {
+    fn hash_pieces(&mut self, message: &[u8], out: &mut [u8]) -> Result<(), Refusal> {
         for piece in message.chunks(PIECE) {
             self.absorb(piece)?;
         }
@@ -46,7 +39,7 @@ pub trait Pieces {
     fn hash(&mut self, message: &[u8], out: &mut [u8]) -> u8 {
         match self.hash_pieces(message, out) {
             Ok(()) => DONE,
-            Err(Refused(status)) => status,
+            Err(refusal) => refusal.status,
         }
     }
 }

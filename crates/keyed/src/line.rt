@@ -4,23 +4,11 @@ ghost use Rattle.std.specs.Prelude.{◌≤◌};
 use crate::pieces;
 use crate::pieces::{Inputs, status_of};
 use functions::keyed::KeyedFunction;
-use std::{fmt, io};
+use hexadecimal::DigitsOf;
+use std::io;
 
 // The longest output: two blocks and a byte.
 const LONGEST: usize = 337;
-
-// The bytes' digits.
-#[derive(Clone, Copy)]
-struct Digits<'a>(&'a [u8]);
-
-impl fmt::Display for Digits<'_> {
-    fn fmt<W: fmt::Write>(&self, f: &mut fmt::Formatter<W>) -> fmt::Result {
-        for byte in self.0 {
-            write!(f, "{byte:02x}")?;
-        }
-        Ok(())
-    }
-}
 
 fn name(function: KeyedFunction) -> &'static str {
     match function {
@@ -45,7 +33,7 @@ fn write_one(
     let mut buffer = [0xa5u8; LONGEST];
     let out = &mut buffer[..asked];
     let status = functions::keyed::hash(function, inputs.first, inputs.message, inputs.string, out);
-    print!(rt; " one {status} {}", Digits(out))
+    print!(rt; " one {status} {}", DigitsOf(out))
 }
 
 // In pieces, with one read more. A squeeze is tried after a refused close too: it must leave the buffer as it is.
@@ -66,8 +54,8 @@ fn write_cut(
     let more = status_of(run.squeeze(&mut byte));
     print!(rt;
         " cut {status} {} more {more} {}",
-        Digits(out),
-        Digits(&byte)
+        DigitsOf(out),
+        DigitsOf(&byte)
     )
 }
 
@@ -110,6 +98,6 @@ pub fn write_close(
     println!(rt;
         "{} close {output} {close} {read} {}",
         name(function),
-        Digits(&out)
+        DigitsOf(&out)
     )
 }

@@ -1,5 +1,6 @@
 // A run in pieces.
 use functions::keyed::{KeyedAnswer, KeyedFunction, KeyedRun};
+use hasher::{HasherAnswer, Refusal};
 use sponge::status::DONE;
 
 const PIECE: usize = 7;
@@ -14,23 +15,15 @@ pub struct Inputs<'a> {
     pub message: &'a [u8],
 }
 
-// The number of a call that was refused.
-#[derive(Clone, Copy)]
-pub struct Refused(u8);
-
-fn accepted(status: u8) -> Result<(), Refused> {
-    if status == DONE {
-        Ok(())
-    } else {
-        Err(Refused(status))
-    }
+fn done(status: u8) -> Result<(), Refusal> {
+    HasherAnswer { hasher: (), status }.done()
 }
 
 // The status of the first call that was refused, or 0.
-pub fn status_of(calls: Result<(), Refused>) -> u8 {
+pub fn status_of(calls: Result<(), Refusal>) -> u8 {
     match calls {
         Ok(()) => DONE,
-        Err(Refused(status)) => status,
+        Err(refusal) => refusal.status,
     }
 }
 
@@ -41,31 +34,31 @@ pub struct Run {
 }
 
 impl Run {
-    fn keep(&mut self, answer: KeyedAnswer) -> Result<(), Refused> {
+    fn keep(&mut self, answer: KeyedAnswer) -> Result<(), Refusal> {
         self.keyed = answer.keyed;
-        accepted(answer.status)
+        done(answer.status)
     }
 
-    fn absorb(&mut self, piece: &[u8]) -> Result<(), Refused> {
+    fn absorb(&mut self, piece: &[u8]) -> Result<(), Refusal> {
         self.keep(functions::keyed::absorb(self.function, self.keyed, piece))
     }
 
-    fn finalize(&mut self, output: u64) -> Result<(), Refused> {
+    fn finalize(&mut self, output: u64) -> Result<(), Refusal> {
         self.keep(functions::keyed::finalize(self.function, self.keyed, output))
     }
 
-    pub fn squeeze(&mut self, out: &mut [u8]) -> Result<(), Refused> {
+    pub fn squeeze(&mut self, out: &mut [u8]) -> Result<(), Refusal> {
         self.keep(functions::keyed::squeeze(self.function, self.keyed, out))
     }
 
-    fn close(&mut self, message: &[u8], output: u64) -> Result<(), Refused> {
+    fn close(&mut self, message: &[u8], output: u64) -> Result<(), Refusal> {
         for piece in message.chunks(PIECE) {
             self.absorb(piece)?;
         }
         self.finalize(output)
     }
 
-    pub fn squeeze_pieces(&mut self, out: &mut [u8]) -> Result<(), Refused> {
+    pub fn squeeze_pieces(&mut self, out: &mut [u8]) -> Result<(), Refusal> {
         for piece in out.chunks_mut(OUTPUT_PIECE) {
             self.squeeze(piece)?;
         }
@@ -74,12 +67,12 @@ impl Run {
 }
 
 // The run that has absorbed the message and is closed for so many bytes of output; or that of the first call that is refused.
-pub fn closed(function: KeyedFunction, inputs: Inputs, output: u64) -> (Run, Result<(), Refused>) {
+pub fn closed(function: KeyedFunction, inputs: Inputs, output: u64) -> (Run, Result<(), Refusal>) {
     let started = functions::keyed::start(function, inputs.first, inputs.string);
     let mut run = Run {
         function,
         keyed: started.keyed,
     };
-    let calls = accepted(started.status).and_then(|()| run.close(inputs.message, output));
+    let calls = done(started.status).and_then(|()| run.close(inputs.message, output));
     (run, calls)
 }

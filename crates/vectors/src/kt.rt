@@ -4,8 +4,9 @@ ghost use Rattle.std.specs.Prelude.{◌≤◌};
 use crate::POWERS;
 use crate::line::write_digest;
 use crate::message::{Message, fill_pattern};
-use crate::pieces::{PIECE, Pieces, Refused, accepted};
+use crate::pieces::{PIECE, Pieces, done};
 use functions::kt::{KtAnswer, KtFunction};
+use hasher::Refusal;
 use kangarootwelve::Run;
 use std::io;
 
@@ -50,17 +51,17 @@ impl KtRun {
         KtRun { function, run }
     }
 
-    fn keep(&mut self, answer: KtAnswer) -> Result<(), Refused> {
+    fn keep(&mut self, answer: KtAnswer) -> Result<(), Refusal> {
         self.run = answer.run;
-        accepted(answer.status)
+        done(answer.status)
     }
 
-    fn customize(&mut self, piece: &[u8]) -> Result<(), Refused> {
+    fn customize(&mut self, piece: &[u8]) -> Result<(), Refusal> {
         self.keep(functions::kt::customize(self.function, self.run, piece))
     }
 
     // An empty string is one empty piece: a first piece there must be, or the run would not leave the message.
-    fn customize_pieces(&mut self, customization: &[u8]) -> Result<(), Refused> {
+    fn customize_pieces(&mut self, customization: &[u8]) -> Result<(), Refusal> {
         let (first, rest) = customization.split_at(PIECE.min(customization.len()));
         self.customize(first)?;
         for piece in rest.chunks(PIECE) {
@@ -69,21 +70,21 @@ impl KtRun {
         Ok(())
     }
 
-    fn finalize(&mut self, customization: &[u8]) -> Result<(), Refused> {
+    fn finalize(&mut self, customization: &[u8]) -> Result<(), Refusal> {
         self.keep(functions::kt::finalize(self.function, self.run, customization))
     }
 
-    fn finish(&mut self) -> Result<(), Refused> {
+    fn finish(&mut self) -> Result<(), Refusal> {
         self.keep(functions::kt::finish(self.function, self.run))
     }
 }
 
 impl Pieces for KtRun {
-    fn absorb(&mut self, piece: &[u8]) -> Result<(), Refused> {
+    fn absorb(&mut self, piece: &[u8]) -> Result<(), Refusal> {
         self.keep(functions::kt::absorb(self.function, self.run, piece))
     }
 
-    fn squeeze(&mut self, out: &mut [u8]) -> Result<(), Refused> {
+    fn squeeze(&mut self, out: &mut [u8]) -> Result<(), Refusal> {
         self.keep(functions::kt::squeeze(self.function, self.run, out))
     }
 }
@@ -94,7 +95,7 @@ fn digest(
     message: Message,
     customization: &[u8],
     out: &mut [u8],
-) -> Result<(), Refused> {
+) -> Result<(), Refusal> {
     let mut run = KtRun::fresh(function);
     run.absorb_message(message)?;
     run.finalize(customization)?;
@@ -107,7 +108,7 @@ fn digest_by_pieces(
     message: Message,
     customization: &[u8],
     out: &mut [u8],
-) -> Result<(), Refused> {
+) -> Result<(), Refusal> {
     let mut run = KtRun::fresh(function);
     run.absorb_message(message)?;
     run.customize_pieces(customization)?;
@@ -121,11 +122,11 @@ fn digest_in_one_go(
     message: Message,
     customization: &[u8],
     out: &mut [u8],
-) -> Result<(), Refused> {
+) -> Result<(), Refusal> {
     let mut buffer = [0u8; 8192];
     message.fill(&mut buffer);
     let whole = &buffer[..message.length().min(8192)];
-    accepted(functions::kt::hash(function, whole, customization, out))
+    done(functions::kt::hash(function, whole, customization, out))
 }
 
 // Writes what was asked, and the digest by a finalize.

@@ -1,24 +1,12 @@
 // The digest of a line.
 ghost use Rattle.std.specs.Prelude.{◌≤◌};
 
-use crate::pieces::Refused;
-use std::{fmt, io};
+use hasher::Refusal;
+use hexadecimal::DigitsOf;
+use std::io;
 
 // The most bytes that a vector asks.
 const LONGEST: usize = 10064;
-
-// The bytes' digits.
-#[derive(Clone, Copy)]
-struct Digits<'a>(&'a [u8]);
-
-impl fmt::Display for Digits<'_> {
-    fn fmt<W: fmt::Write>(&self, f: &mut fmt::Formatter<W>) -> fmt::Result {
-        for byte in self.0 {
-            write!(f, "{byte:02x}")?;
-        }
-        Ok(())
-    }
-}
 
 // What the draft prints: of a long output not the first 10,000 bytes.
 fn printed(out: &[u8]) -> &[u8] {
@@ -30,7 +18,7 @@ fn printed(out: &[u8]) -> &[u8] {
 }
 
 // Writes a space and what a call puts into so many bytes, which no other call wrote to; or its status, where it is refused.
-pub fn write_digest<F: FnOnce(&mut [u8]) -> Result<(), Refused>>(
+pub fn write_digest<F: FnOnce(&mut [u8]) -> Result<(), Refusal>>(
     rt: &impl Print,
     asked: usize,
     call: F,
@@ -41,7 +29,7 @@ pub fn write_digest<F: FnOnce(&mut [u8]) -> Result<(), Refused>>(
     let mut buffer = [0u8; LONGEST];
     let out = &mut buffer[..asked];
     match call(out) {
-        Ok(()) => print!(rt; " {}", Digits(printed(out))),
-        Err(Refused(status)) => print!(rt; " status {status}"),
+        Ok(()) => print!(rt; " {}", DigitsOf(printed(out))),
+        Err(refusal) => print!(rt; " status {}", refusal.status),
     }
 }

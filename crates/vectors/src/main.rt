@@ -12,10 +12,10 @@ mod pieces;
 ghost use Rattle.std.specs.Prelude.{◌≤◌};
 
 use functions::Function;
-use hasher::{Answer, Run};
+use hasher::{Answer, Refusal, Run};
 use line::write_digest;
 use message::Message;
-use pieces::{Pieces, Refused, accepted};
+use pieces::{Pieces, done};
 use std::{fmt, io};
 
 // The lengths of the longer messages: 17**0 to 17**6.
@@ -75,22 +75,22 @@ struct TurboShakeRun {
 }
 
 impl TurboShakeRun {
-    fn keep(&mut self, answer: Answer) -> Result<(), Refused> {
+    fn keep(&mut self, answer: Answer) -> Result<(), Refusal> {
         self.run = answer.run;
-        accepted(answer.status)
+        done(answer.status)
     }
 
-    fn finalize(&mut self, domain: u8) -> Result<(), Refused> {
+    fn finalize(&mut self, domain: u8) -> Result<(), Refusal> {
         self.keep(functions::finalize(self.function, self.run, domain))
     }
 }
 
 impl Pieces for TurboShakeRun {
-    fn absorb(&mut self, piece: &[u8]) -> Result<(), Refused> {
+    fn absorb(&mut self, piece: &[u8]) -> Result<(), Refusal> {
         self.keep(functions::absorb(self.function, self.run, piece))
     }
 
-    fn squeeze(&mut self, out: &mut [u8]) -> Result<(), Refused> {
+    fn squeeze(&mut self, out: &mut [u8]) -> Result<(), Refusal> {
         self.keep(functions::squeeze(self.function, self.run, out))
     }
 }
@@ -101,7 +101,7 @@ fn digest(
     message: Message,
     domain: u8,
     out: &mut [u8],
-) -> Result<(), Refused> {
+) -> Result<(), Refusal> {
     let mut run = TurboShakeRun {
         function: turboshake.function(),
         run: hasher::fresh(),
