@@ -1,9 +1,13 @@
 // Bytes as text: two lower-case hex digits each.
 #![tactic(auto)]
 
+mod display;
+
 ghost use Rattle.std.specs.Prelude.{◌≡◌, ◌+◌, ◌/◌, ◌%◌, ◌<◌, length, set};
 ghost use Rattle.hexadecimal.specs.Hex.{fits, with_hex};
 ghost use Rattle.hexadecimal.specs.Hex.{digit as Hex·digit};
+
+pub use display::DigitsOf;
 
 fn digit(d: u8) -> u8
     requires { d < 16 }
