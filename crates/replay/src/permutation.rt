@@ -1,62 +1,44 @@
-// The records that permute a state, or undo that. They need no run in hand, and leave the one there is as it is.
-ghost use Rattle.std.specs.Prelude.{◌+◌, ◌*◌, ◌≤◌, length};
-
-use crate::session::Session;
-use crate::{line, session};
-use std::io;
+// The records that permute a state, or undo that.
+use crate::line::Line;
+use crate::payload::Payload;
+use crate::record::{BadRecord, MOST};
 
 // The bytes of a state, and so the rate at which all of them are absorbed and squeezed before anything is permuted.
 const BYTES: usize = 200;
 
-fn call(op: u8, lanes: &mut [u64; 25], rounds: usize) -> u8 {
-    if op == b'I' {
-        return inverse::unpermute_in_place(lanes, rounds);
-    }
-    keccak::permute_in_place(lanes, rounds)
+// The payload: the number of rounds, and the state.
+struct Asked {
+    rounds: usize,
+    lanes: [u64; 25],
 }
 
-// `out` is as long as a state.
-fn permuted(
-    rt: &impl Print,
-    session: Session,
-    op: u8,
-    rounds: u8,
-    bytes: &[u8],
-    out: &mut [u8],
-    text: &mut [u8],
-) -> io::Result<Session>
-    requires { 2 * length out.old + 2 ≤ length text.old }
-{
+fn state_asked(mut payload: Payload) -> Result<Asked, BadRecord> {
+    let rounds = payload.byte()? as usize;
+    let bytes = payload.rest();
+    if bytes.len() != BYTES {
+        return Err(BadRecord);
+    }
     let mut lanes = [0u64; 25];
     sponge::absorb(&mut lanes, 0, BYTES, 0, bytes);
-    let status = call(op, &mut lanes, rounds as usize);
-    sponge::squeeze(&mut lanes, 0, BYTES, 0, out);
-    line::write_output(rt, status, out, text)?;
-    Ok(session)
+    Ok(Asked { rounds, lanes })
 }
 
-// Op P, and op I, which undoes it.
-pub fn answer(
-    rt: &impl Print,
-    session: Session,
-    op: u8,
-    payload: &[u8],
-    out: &mut [u8],
-    text: &mut [u8],
-) -> io::Result<Session>
-    requires in_bounds { 262144 ≤ length out.old }
-    requires in_bounds_2 { 524290 ≤ length text.old }
-{
-    if payload.len() != 1 + BYTES {
-        return session::bad_record(rt, session);
-    }
-    permuted(
-        rt,
-        session,
-        op,
-        payload[0],
-        &payload[1..],
-        &mut out[0..BYTES],
-        text,
-    )
+fn line<'a>(status: u8, lanes: &mut [u64; 25], buffer: &'a mut [u8; MOST]) -> Line<'a> {
+    let out = &mut buffer[..BYTES];
+    sponge::squeeze(lanes, 0, BYTES, 0, out);
+    Line::Output(status, out)
+}
+
+// Op P.
+pub fn permute<'a>(payload: Payload, buffer: &'a mut [u8; MOST]) -> Result<Line<'a>, BadRecord> {
+    let Asked { rounds, mut lanes } = state_asked(payload)?;
+    let status = keccak::permute_in_place(&mut lanes, rounds);
+    Ok(line(status, &mut lanes, buffer))
+}
+
+// Op I, which undoes it.
+pub fn unpermute<'a>(payload: Payload, buffer: &'a mut [u8; MOST]) -> Result<Line<'a>, BadRecord> {
+    let Asked { rounds, mut lanes } = state_asked(payload)?;
+    let status = inverse::unpermute_in_place(&mut lanes, rounds);
+    Ok(line(status, &mut lanes, buffer))
 }
