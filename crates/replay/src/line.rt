@@ -26,9 +26,14 @@ pub enum Line<'a> {
 struct Hexadecimal<'a>(&'a [u8]);
 
 impl fmt::Display for Hexadecimal<'_> {
+    // Eight bytes at a time, as one number: by single bytes it takes some four times as long.
     fn fmt<W: fmt::Write>(&self, f: &mut fmt::Formatter<W>) -> fmt::Result {
-        for byte in self.0 {
-            write!(f, "{byte:02x}")?;
+        for bytes in self.0.chunks(8) {
+            let number = bytes
+                .iter()
+                .fold(0, |number: u64, byte| number << 8 | *byte as u64);
+            let digits = 2 * bytes.len();
+            write!(f, "{number:0digits$x}")?;
         }
         Ok(())
     }

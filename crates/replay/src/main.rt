@@ -77,15 +77,15 @@ fn answer_call<'a>(
     match op {
         b'N' => in_hand::fresh(in_hand, payload),
         b'n' => in_hand::start(in_hand, payload),
-        b'T' => one_go::with_domain(payload, out),
-        b'B' => one_go::without_domain(payload, out),
+        b'T' => one_go::sponge(payload, out, true),
+        b'B' => one_go::sponge(payload, out, false),
         b'K' => one_go::kt(payload, out),
         b'k' => lent::hash(payload, out),
         b'M' => one_go::keyed(payload, out),
         b'H' => hopmac::tag(payload, out),
         b'V' => hopmac::verify(payload),
-        b'P' => permutation::permute(payload, out),
-        b'I' => permutation::unpermute(payload, out),
+        b'P' => permutation::answer(payload, out, keccak::permute_in_place),
+        b'I' => permutation::answer(payload, out, inverse::unpermute_in_place),
         _ => in_hand::answer(in_hand, op, payload),
     }
 }

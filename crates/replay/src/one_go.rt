@@ -5,36 +5,21 @@ use crate::payload::Payload;
 use crate::record::{BadRecord, MOST};
 use functions::kt::KtFunction;
 
-// Op T: of a function that has a domain byte.
-pub fn with_domain<'a>(
+// Op T, of a function that has a domain byte, and op B, of one that has none.
+pub fn sponge<'a>(
     mut payload: Payload,
     buffer: &'a mut [u8; MOST],
+    domain: bool,
 ) -> Result<Line<'a>, BadRecord> {
     let Named::Sponge(function) = Named::try_from(payload.byte()?)? else {
         return Err(BadRecord);
     };
-    if !function.domain {
+    if function.domain != domain {
         return Err(BadRecord);
     }
-    let domain = payload.byte()?;
+    let last = payload.domain(function)?;
     let out = payload.output(buffer)?;
-    let status = functions::hash(function, payload.rest(), domain, out);
-    Ok(Line::Output(status, out))
-}
-
-// Op B: of a function that has none.
-pub fn without_domain<'a>(
-    mut payload: Payload,
-    buffer: &'a mut [u8; MOST],
-) -> Result<Line<'a>, BadRecord> {
-    let Named::Sponge(function) = Named::try_from(payload.byte()?)? else {
-        return Err(BadRecord);
-    };
-    if function.domain {
-        return Err(BadRecord);
-    }
-    let out = payload.output(buffer)?;
-    let status = functions::hash(function, payload.rest(), 0, out);
+    let status = functions::hash(function, payload.rest(), last, out);
     Ok(Line::Output(status, out))
 }
 

@@ -1,5 +1,6 @@
 // The payload of a record, taken from its front. Numbers have their most significant byte first.
 use crate::record::{BadRecord, MOST};
+use functions::Function;
 
 // What each byte of an output holds before the call, so that a byte which no call wrote can be told.
 const BEFORE: u8 = 0xa5;
@@ -34,6 +35,11 @@ impl<'a> Payload<'a> {
 
     pub fn eight(&mut self) -> Result<u64, BadRecord> {
         Ok(u64::from_be_bytes(self.take()?))
+    }
+
+    // The domain byte where the function has one, else nothing, and 0 for it.
+    pub fn domain(&mut self, function: Function) -> Result<u8, BadRecord> {
+        if function.domain { self.byte() } else { Ok(0) }
     }
 
     // The bytes that have their length before them.

@@ -28,13 +28,8 @@ impl Calls for SpongeInHand {
         answer.status
     }
 
-    // A domain byte where the function has one, else nothing.
     fn finalize(&mut self, mut payload: Payload) -> Result<u8, BadRecord> {
-        let domain = if self.function.domain {
-            payload.byte()?
-        } else {
-            0
-        };
+        let domain = payload.domain(self.function)?;
         payload.end()?;
         let answer = functions::finalize(self.function, self.run, domain);
         self.run = answer.run;
