@@ -4,12 +4,19 @@ use crate::line::Line;
 use crate::payload::Payload;
 use crate::record::BadRecord;
 use crate::sponge_run;
-use functions::keyed::{KeyedFunction, KeyedRun};
+use functions::keyed::{KeyedAnswer, KeyedFunction, KeyedRun};
 
 #[derive(Clone, Copy)]
 pub struct KeyedInHand {
     pub function: KeyedFunction,
     pub run: KeyedRun,
+}
+
+impl KeyedInHand {
+    fn keep(&mut self, answer: KeyedAnswer) -> u8 {
+        self.run = answer.keyed;
+        answer.status
+    }
 }
 
 // What a run has beside the fields of every run.
@@ -29,9 +36,7 @@ fn own_field(function: KeyedFunction) -> Option<OwnField> {
 
 impl Calls for KeyedInHand {
     fn absorb(&mut self, piece: &[u8]) -> u8 {
-        let answer = functions::keyed::absorb(self.function, self.run, piece);
-        self.run = answer.keyed;
-        answer.status
+        self.keep(functions::keyed::absorb(self.function, self.run, piece))
     }
 
     // An output length where the function fixes it, else nothing.
@@ -41,15 +46,11 @@ impl Calls for KeyedInHand {
             Some(OwnField::Bit) | None => 0,
         };
         payload.end()?;
-        let answer = functions::keyed::finalize(self.function, self.run, length);
-        self.run = answer.keyed;
-        Ok(answer.status)
+        Ok(self.keep(functions::keyed::finalize(self.function, self.run, length)))
     }
 
     fn squeeze(&mut self, out: &mut [u8]) -> u8 {
-        let answer = functions::keyed::squeeze(self.function, self.run, out);
-        self.run = answer.keyed;
-        answer.status
+        self.keep(functions::keyed::squeeze(self.function, self.run, out))
     }
 
     // A run of KMAC has its output length as 7, one of cSHAKE as 8 the bit that says SHAKE.

@@ -5,7 +5,7 @@ use crate::lent::{BEFORE, MOST_WORDS};
 use crate::line::Line;
 use crate::payload::Payload;
 use crate::record::BadRecord;
-use functions::kt::KtFunction;
+use functions::kt::{KtAnswer, KtFunction};
 use kangarootwelve::Run;
 
 #[derive(Clone, Copy)]
@@ -21,46 +21,40 @@ impl KtInHand {
             run: functions::kt::fresh(function),
         }
     }
+
+    fn keep(&mut self, answer: KtAnswer) -> u8 {
+        self.run = answer.run;
+        answer.status
+    }
 }
 
 impl Calls for KtInHand {
     fn absorb(&mut self, piece: &[u8]) -> u8 {
-        let answer = functions::kt::absorb(self.function, self.run, piece);
-        self.run = answer.run;
-        answer.status
+        self.keep(functions::kt::absorb(self.function, self.run, piece))
     }
 
     fn absorb_abreast(&mut self, mut payload: Payload) -> Result<Line<'static>, BadRecord> {
         let mut words = [BEFORE; MOST_WORDS];
         let words = lent::take(&mut words, payload.two()?)?;
         let answer = functions::kt::absorb_abreast(self.function, self.run, payload.rest(), words);
-        self.run = answer.run;
-        Ok(Line::Lent(answer.status, lent::state_of(words)))
+        Ok(Line::Lent(self.keep(answer), lent::state_of(words)))
     }
 
     fn customize(&mut self, piece: &[u8]) -> Result<u8, BadRecord> {
-        let answer = functions::kt::customize(self.function, self.run, piece);
-        self.run = answer.run;
-        Ok(answer.status)
+        Ok(self.keep(functions::kt::customize(self.function, self.run, piece)))
     }
 
     // The payload is the customization string.
     fn finalize(&mut self, payload: Payload) -> Result<u8, BadRecord> {
-        let answer = functions::kt::finalize(self.function, self.run, payload.rest());
-        self.run = answer.run;
-        Ok(answer.status)
+        Ok(self.keep(functions::kt::finalize(self.function, self.run, payload.rest())))
     }
 
     fn finish(&mut self) -> Result<u8, BadRecord> {
-        let answer = functions::kt::finish(self.function, self.run);
-        self.run = answer.run;
-        Ok(answer.status)
+        Ok(self.keep(functions::kt::finish(self.function, self.run)))
     }
 
     fn squeeze(&mut self, out: &mut [u8]) -> u8 {
-        let answer = functions::kt::squeeze(self.function, self.run, out);
-        self.run = answer.run;
-        answer.status
+        self.keep(functions::kt::squeeze(self.function, self.run, out))
     }
 
     fn set(&mut self, field: u8, value: u64) -> Result<(), BadRecord> {

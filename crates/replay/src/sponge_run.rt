@@ -4,7 +4,7 @@ use crate::line::Line;
 use crate::payload::Payload;
 use crate::record::BadRecord;
 use functions::Function;
-use hasher::Run;
+use hasher::{Answer, Run};
 
 #[derive(Clone, Copy)]
 pub struct SpongeInHand {
@@ -19,27 +19,26 @@ impl SpongeInHand {
             run: hasher::fresh(),
         }
     }
+
+    fn keep(&mut self, answer: Answer) -> u8 {
+        self.run = answer.run;
+        answer.status
+    }
 }
 
 impl Calls for SpongeInHand {
     fn absorb(&mut self, piece: &[u8]) -> u8 {
-        let answer = functions::absorb(self.function, self.run, piece);
-        self.run = answer.run;
-        answer.status
+        self.keep(functions::absorb(self.function, self.run, piece))
     }
 
     fn finalize(&mut self, mut payload: Payload) -> Result<u8, BadRecord> {
         let domain = payload.domain(self.function)?;
         payload.end()?;
-        let answer = functions::finalize(self.function, self.run, domain);
-        self.run = answer.run;
-        Ok(answer.status)
+        Ok(self.keep(functions::finalize(self.function, self.run, domain)))
     }
 
     fn squeeze(&mut self, out: &mut [u8]) -> u8 {
-        let answer = functions::squeeze(self.function, self.run, out);
-        self.run = answer.run;
-        answer.status
+        self.keep(functions::squeeze(self.function, self.run, out))
     }
 
     fn set(&mut self, field: u8, value: u64) -> Result<(), BadRecord> {
