@@ -43,7 +43,7 @@ pub trait Calls {
             }
             b'S' => {
                 let field = payload.byte()?;
-                let value = payload.eight()?;
+                let value = u64::from_be_bytes(payload.take()?);
                 payload.end()?;
                 self.set(field, value)?;
                 Ok(Line::Set)

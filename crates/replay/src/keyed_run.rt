@@ -42,7 +42,7 @@ impl Calls for KeyedInHand {
     // An output length where the function fixes it, else nothing.
     fn finalize(&mut self, mut payload: Payload) -> Result<u8, BadRecord> {
         let length = match own_field(self.function) {
-            Some(OwnField::Length) => payload.eight()?,
+            Some(OwnField::Length) => u64::from_be_bytes(payload.take()?),
             Some(OwnField::Bit) | None => 0,
         };
         payload.end()?;

@@ -35,7 +35,7 @@ impl Calls for KtInHand {
 
     fn absorb_abreast(&mut self, mut payload: Payload) -> Result<Line<'static>, BadRecord> {
         let mut words = [BEFORE; MOST_WORDS];
-        let words = lent::take(&mut words, payload.two()?)?;
+        let words = lent::take(&mut words, u16::from_be_bytes(payload.take()?))?;
         let answer = functions::kt::absorb_abreast(self.function, self.run, payload.rest(), words);
         Ok(Line::Lent(self.keep(answer), lent::state_of(words)))
     }

@@ -51,7 +51,7 @@ pub fn state_of(words: &[u64]) -> Words {
 // Op k: the number of words, then as K.
 pub fn hash<'a>(mut payload: Payload, buffer: &'a mut [u8; MOST]) -> Result<Line<'a>, BadRecord> {
     let mut words = [BEFORE; MOST_WORDS];
-    let words = take(&mut words, payload.two()?)?;
+    let words = take(&mut words, u16::from_be_bytes(payload.take()?))?;
     let KtAsked {
         function,
         message,

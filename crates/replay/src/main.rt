@@ -62,21 +62,21 @@ mod sponge_run;
 
 use in_hand::InHand;
 use line::Line;
-use payload::Payload;
 use record::{BadRecord, MOST, Record, Stop};
 use std::io;
 use std::io::Read;
 
 // N and n leave another run in hand; T, B, K, k, M, H, V, P and I need none, and leave the one there is as it is.
-fn answer_call<'a>(
+fn answer<'a>(
     in_hand: &mut Option<InHand>,
-    op: u8,
-    payload: Payload,
+    record: Record,
     out: &'a mut [u8; MOST],
 ) -> Result<Line<'a>, BadRecord> {
+    let Record { op, n, payload } = record;
     match op {
         b'N' => in_hand::fresh(in_hand, payload),
         b'n' => in_hand::start(in_hand, payload),
+        b'R' => in_hand::squeeze(in_hand, n, out),
         b'T' => one_go::sponge(payload, out, true),
         b'B' => one_go::sponge(payload, out, false),
         b'K' => one_go::kt(payload, out),
@@ -87,17 +87,6 @@ fn answer_call<'a>(
         b'P' => permutation::answer(payload, out, keccak::permute_in_place),
         b'I' => permutation::answer(payload, out, inverse::unpermute_in_place),
         _ => in_hand::answer(in_hand, op, payload),
-    }
-}
-
-fn answer<'a>(
-    in_hand: &mut Option<InHand>,
-    record: Record,
-    out: &'a mut [u8; MOST],
-) -> Result<Line<'a>, BadRecord> {
-    match record {
-        Record::Squeeze(size) => in_hand::squeeze(in_hand, size, out),
-        Record::Call(op, bytes) => answer_call(in_hand, op, Payload::of(bytes), out),
     }
 }
 

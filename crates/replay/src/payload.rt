@@ -15,26 +15,22 @@ impl<'a> Payload<'a> {
         Payload { rest: bytes }
     }
 
-    fn take<const N: usize>(&mut self) -> Result<[u8; N], BadRecord> {
+    // The next bytes, as many as the array has.
+    pub fn take<const N: usize>(&mut self) -> Result<[u8; N], BadRecord> {
         let (taken, rest) = self.rest.split_first_chunk::<N>().ok_or(BadRecord)?;
         self.rest = rest;
         Ok(*taken)
     }
 
     pub fn byte(&mut self) -> Result<u8, BadRecord> {
-        Ok(u8::from_be_bytes(self.take()?))
+        let (byte, rest) = self.rest.split_first().ok_or(BadRecord)?;
+        self.rest = rest;
+        Ok(*byte)
     }
 
-    pub fn two(&mut self) -> Result<u16, BadRecord> {
-        Ok(u16::from_be_bytes(self.take()?))
-    }
-
+    // A length, or how many bytes are asked.
     pub fn four(&mut self) -> Result<u32, BadRecord> {
         Ok(u32::from_be_bytes(self.take()?))
-    }
-
-    pub fn eight(&mut self) -> Result<u64, BadRecord> {
-        Ok(u64::from_be_bytes(self.take()?))
     }
 
     // The domain byte where the function has one, else nothing, and 0 for it.

@@ -39,11 +39,12 @@ impl From<io::Error> for Stop {
     }
 }
 
-#[derive(Clone, Copy)]
-pub enum Record<'a> {
-    // Op R: so many bytes are asked.
-    Squeeze(usize),
-    Call(u8, &'a [u8]),
+// The op, the number after it, and the payload, of which op R has none.
+#[derive(Drop)]
+pub struct Record<'a> {
+    pub op: u8,
+    pub n: usize,
+    pub payload: Payload<'a>,
 }
 
 // Reads until the buffer is full or the input ends, and answers how many bytes it put at the buffer's start. A read that a signal
@@ -69,15 +70,12 @@ fn read_full(input: &mut impl Read, buffer: &mut [u8]) -> io::Result<usize>
     Ok(done)
 }
 
-fn read_payload<'a>(
-    input: &mut impl Read,
-    op: u8,
-    payload: &'a mut [u8],
-) -> Result<Record<'a>, Stop> {
-    if read_full(input, payload)? < payload.len() {
+// A payload as long as the buffer.
+fn read_payload<'a>(input: &mut impl Read, buffer: &'a mut [u8]) -> Result<Payload<'a>, Stop> {
+    if read_full(input, buffer)? < buffer.len() {
         return Err(Stop::Bad);
     }
-    Ok(Record::Call(op, payload))
+    Ok(Payload::of(buffer))
 }
 
 // The next record, its payload in the buffer; none where the input ends.
@@ -93,11 +91,10 @@ pub fn read<'a>(
     let mut head = Payload::of(&head[..got]);
     let op = head.byte()?;
     let n = head.four()? as usize;
-    if op == b'R' {
-        return Ok(Some(Record::Squeeze(n)));
-    }
-    if MOST < n {
+    let size = if op == b'R' { 0 } else { n };
+    if MOST < size {
         return Err(Stop::Bad);
     }
-    Ok(Some(read_payload(input, op, &mut buffer[..n])?))
+    let payload = read_payload(input, &mut buffer[..size])?;
+    Ok(Some(Record { op, n, payload }))
 }
