@@ -11,7 +11,7 @@ use Rattle.sp800_185.specs.Function.{cshake_at}
 use Rattle.sp800_185.specs.Model as model
 use Rattle.sp800_185.specs.Cshake.{shake_at, of_shake, of_keyed, answer, written}
 use Rattle.sp800_185.specs.declared.Answer.{Answer}
-use Rattle.sp800_185.specs.declared.Customized.{Customized}
+use Rattle.sp800_185.specs.Cshake.{Customized}
 
 module _ (rate most : ℕ) (x : Customized) where
   pub shake-answer : (c : Call (Unit {0})) (a : declared.Answer) → x.shake ≡ true → a ≡ hasher.answer (shake_at rate) x.run c → of_shake a ≡ answer rate most x c

@@ -10,8 +10,8 @@ use Rattle.sponge.specs.Status.{done}
 use Rattle.sponge.proofs.Streaming.{cond-zero}
 use Rattle.hasher.specs.Function.{long_output}
 use Rattle.sp800_185.specs.Function.{Function, length_status, argument, keeps, limit}
-use Rattle.sp800_185.specs.Model.{given, Usable}
-use Rattle.sp800_185.specs.declared.Numbers.{Numbers}
+use Rattle.sp800_185.specs.Model.{given}
+use Rattle.sp800_185.specs.declared.numbers.Numbers.{Numbers}
 
 -- by whether the close fixes the length
 kept_by : (f : Bool) (l : ℕ) → cond f (leb 1 l && leb l long_output) (eqb l 0) ≡ true → cond f (cond f l long_output) 0 ≡ l
@@ -79,9 +79,9 @@ said_by : (f : Bool) (l : ℕ) → cond f (leb 1 l && leb l long_output) (eqb l 
 said_by true l e = refl
 said_by false l e = sym (eqb-true l 0 e)
 
-pub given_meets : (f : Numbers) → Usable f → Meets (given f)
-given_meets f u = record { positive = u.0; fits = u.1; some = λ l. l; some_said = said_by f.fixes; said_fixed = twice f.fixes }
+pub given_meets : (f : Numbers) → Meets (given f)
+given_meets f = record { positive = f.usable.0; fits = f.usable.1; some = λ l. l; some_said = said_by f.fixes; said_fixed = twice f.fixes }
 
 -- a length that the close takes is short
-pub given_few : (f : Numbers) → Usable f → (l : ℕ) → argument (given f) l ≡ 0 → cond f.fixes l 0 ≤ long_output
-given_few f u l e = (kept_few (given f) (cond f.fixes l 0) (said_kept (given f) (given_meets f u) l e)).0
+pub given_few : (f : Numbers) (l : ℕ) → argument (given f) l ≡ 0 → cond f.fixes l 0 ≤ long_output
+given_few f l e = (kept_few (given f) (cond f.fixes l 0) (said_kept (given f) (given_meets f) l e)).0

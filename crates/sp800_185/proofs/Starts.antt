@@ -14,7 +14,7 @@ use Rattle.sp800_185.specs.Published.{encode_string, bytepad, both_empty, cshake
 use Rattle.sp800_185.specs.Start.{string_limit, key_limit, kmac_prefix, start_run, no_run}
 use Rattle.sp800_185.specs.Cshake as cshake
 use Rattle.sp800_185.specs.Kmac as kmac
-use Rattle.sp800_185.specs.declared.Customized.{Customized}
+use Rattle.sp800_185.specs.Cshake.{Customized}
 use Rattle.sp800_185.proofs.Statuses.{fit_both}
 
 -- ---- within the limits

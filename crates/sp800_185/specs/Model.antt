@@ -1,6 +1,6 @@
 -- What each call on a run after a start does on every input, but for cSHAKE with both strings empty, which is SHAKE.
 -- Assumes nothing.
-use Rattle.std.specs.Prelude.{List, [], Bool, cond, ◌&&◌, ℕ, suc, ◌+◌, ◌≤◌, ◌<◌, length, eqb, leb}
+use Rattle.std.specs.Prelude.{List, [], Bool, cond, ◌&&◌, ℕ, suc, ◌+◌, length, eqb, leb}
 use Rattle.keccak.specs.Permutation.{last_rounds}
 use Rattle.sponge.specs.Waiting.{steps, position_after}
 use Rattle.sponge.specs.Published.{xor_byte}
@@ -17,7 +17,7 @@ use Rattle.sp800_185.specs.Start.{prefixed, start_run}
 use Rattle.sp800_185.specs.Function.{Function, ending, keeps, limit, rules}
 use Rattle.sp800_185.specs.declared.Keyed.{Keyed}
 use Rattle.sp800_185.specs.declared.Answer.{Answer}
-use Rattle.sp800_185.specs.declared.Numbers.{Numbers}
+use Rattle.sp800_185.specs.declared.numbers.Numbers.{Numbers}
 
 -- a sponge whose permutations are counted, and the output length that is kept: 0 before the close
 pub record State : Type 0 where
@@ -116,13 +116,9 @@ module _ {A : Type 0} (F : Function A) where
 abbrev pub given : Numbers → Function ℕ
 given f = record { rate = f.rate; says = f.says; fixes = f.fixes; least = f.least; most = f.most; said = λ l. cond f.fixes l 0 }
 
--- what the calls ask of the numbers
-abbrev pub Usable : Numbers → Type 0
-Usable f = (0 < f.rate) × (f.rate ≤ 200) × (1 ≤ f.least) × (f.least ≤ 2) × (f.most ≤ 4294967295)
-
 module _ {A : Type 0} (F : Function A) where
   abbrev pub plain : Function ℕ
-  plain = given (record { rate = F.rate; says = F.says; fixes = F.fixes; least = F.least; most = F.most })
+  plain = record { rate = F.rate; says = F.says; fixes = F.fixes; least = F.least; most = F.most; said = λ l. cond F.fixes l 0 }
 
   -- a call's answer on a run of F, and what the lent output of a squeeze holds
   abbrev pub answer : Keyed → Call A → Answer
