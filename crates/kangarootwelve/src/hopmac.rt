@@ -1,9 +1,12 @@
 // HopMAC in one go: KT of the key, with the KT of the message and the customization string as customization string. And its tag check.
-ghost use Rattle.std.specs.Prelude.{◌≡◌, ◌&&◌, ◌<◌, ◌≤◌, length, eqb};
+ghost use Rattle.std.specs.Prelude.{◌≡◌, ℕ, ◌&&◌, ◌<◌, ◌≤◌, length, eqb};
+ghost use Rattle.std.proofs.Common.{rules};
 ghost use Rattle.kangarootwelve.specs.Published.{hopmac};
 ghost use Rattle.kangarootwelve.specs.Mac.{mac_status, mac_output, check_status, same_bytes, verdict_of};
 
-use crate::{CUSTOMIZATION_LIMIT, TAG_LIMIT, Verdict, one_go};
+use crate::{
+    CUSTOMIZATION_LIMIT, HopMac128, HopMac256, Kt, Kt128, Kt256, TAG_LIMIT, Verdict, one_go,
+};
 use sponge::status;
 use turboshake::MESSAGE_LIMIT;
 
@@ -167,4 +170,67 @@ pub(crate) fn verify(
         status: refusal,
         valid,
     }
+}
+
+// A strength: its KT, and the bytes of the inner digest.
+pub trait HopMac {
+    type Hash: Kt;
+
+    ghost INNER: { ℕ };
+
+    const INNER: usize;
+
+    // An inner digest fits a block.
+    ghost bounds: { (0 < INNER) × (INNER ≤ 64) × (INNER ≤ Self.Hash.RATE) };
+
+    // The tag of a message and a customization string under the key: as many bytes as `out` holds.
+    final fn tag(key: &[u8], message: &[u8], customization: &[u8], out: &mut [u8]) -> u8
+        ensures value { result ≡ mac_status (length key.now) (length message.now) (length customization.now) (length out.old) }
+        ensures out_after { out.new ≡ mac_output Self.Hash.RATE Self.Hash.CHAINING INNER key.now message.now customization.now out.old }
+    {
+        tag(
+            Self::Hash::RATE,
+            Self::Hash::CHAINING,
+            Self::INNER,
+            key,
+            message,
+            customization,
+            out,
+        )
+    }
+
+    // Whether the presented tag, of 1 to 64 bytes, is that of the message and the customization string under the key.
+    final fn verify(key: &[u8], message: &[u8], customization: &[u8], presented: &[u8]) -> Verdict
+        ensures { result ≡ verdict_of Self.Hash.RATE Self.Hash.CHAINING INNER key.now message.now customization.now presented.now }
+    {
+        verify(
+            Self::Hash::RATE,
+            Self::Hash::CHAINING,
+            Self::INNER,
+            key,
+            message,
+            customization,
+            presented,
+        )
+    }
+}
+
+impl HopMac for HopMac128 {
+    type Hash = Kt128;
+
+    ghost INNER = { 32 };
+
+    const INNER: usize = 32;
+
+    ghost bounds = { Prim.search rules };
+}
+
+impl HopMac for HopMac256 {
+    type Hash = Kt256;
+
+    ghost INNER = { 64 };
+
+    const INNER: usize = 64;
+
+    ghost bounds = { Prim.search rules };
 }

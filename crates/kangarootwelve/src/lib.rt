@@ -1,26 +1,27 @@
 // KT128 and KT256: draft-irtf-cfrg-kangarootwelve-16, section 3, in one go and in pieces. HopMAC128 and HopMAC256, section 4, in one go,
 // and their tag check.
 //
-// A type for each strength, whose calls stand in `strength128` and `strength256`; what they share stands in `by_value`, `calls`, `reached`, `totals`, `tree`, `fours`, `leaves`,
-// `one_go`, `encode` and `hopmac`, over the rate, the length of a chaining value and that of an inner digest.
+// A type for each strength, whose calls are those of the traits `Kt` and `HopMac`, over the rate, the length of a chaining value and that of an inner
+// digest.
 #![tactic(auto)]
 
-mod by_value;
 mod calls;
 mod encode;
 mod fours;
 mod hopmac;
+mod kt;
 mod leaves;
 mod one_go;
 mod reached;
-mod strength128;
-mod strength256;
 mod totals;
 mod tree;
 
-ghost use Rattle.std.specs.Prelude.{◌≡◌, length};
+ghost use Rattle.std.specs.Prelude.{◌≡◌};
 ghost use Rattle.kangarootwelve.specs.Model.{encoding_of};
-ghost use Rattle.kangarootwelve.specs.Mac.{mac_status, mac_output, same_bytes, verdict_of};
+ghost use Rattle.kangarootwelve.specs.Mac.{same_bytes};
+
+pub use hopmac::HopMac;
+pub use kt::Kt;
 
 // The phases of a run.
 const ABSORBING: u8 = 0;
@@ -88,13 +89,6 @@ struct Moved {
     status: u8,
 }
 
-// What a call answers, whatever the strength.
-#[derive(Clone, Copy)]
-struct Answered {
-    run: Run,
-    status: u8,
-}
-
 // Where the next byte of S goes: the two positions, the number of the chunk in hand, and the bytes of it that were absorbed.
 #[derive(Clone, Copy)]
 struct Place {
@@ -117,23 +111,10 @@ pub struct Kt128 {
     pub run: Run,
 }
 
-// What a call answers: the status, and the run, which is the one given where the status is not 0.
-#[derive(Clone, Copy)]
-pub struct Answer128 {
-    pub hasher: Kt128,
-    pub status: u8,
-}
-
 // A run of KT256.
 #[derive(Clone, Copy)]
 pub struct Kt256 {
     pub run: Run,
-}
-
-#[derive(Clone, Copy)]
-pub struct Answer256 {
-    pub hasher: Kt256,
-    pub status: u8,
 }
 
 // HopMAC128: the draft's section 4.
@@ -175,76 +156,4 @@ pub fn is_same(a: &[u8], b: &[u8]) -> bool
         return false;
     }
     hopmac::is_same(a, b)
-}
-
-impl HopMac128 {
-    // The bytes of the inner digest.
-    pub const INNER: usize = 32;
-
-    // The tag of a message and a customization string under the key: as many bytes as `out` holds.
-    pub fn tag(key: &[u8], message: &[u8], customization: &[u8], out: &mut [u8]) -> u8
-        ensures value { result ≡ mac_status (length key.now) (length message.now) (length customization.now) (length out.old) }
-        ensures out_after { out.new ≡ mac_output 168 32 32 key.now message.now customization.now out.old }
-    {
-        hopmac::tag(
-            Kt128::RATE,
-            Kt128::CHAINING,
-            Self::INNER,
-            key,
-            message,
-            customization,
-            out,
-        )
-    }
-
-    // Whether the presented tag, of 1 to 64 bytes, is that of the message and the customization string under the key.
-    pub fn verify(key: &[u8], message: &[u8], customization: &[u8], presented: &[u8]) -> Verdict
-        ensures { result ≡ verdict_of 168 32 32 key.now message.now customization.now presented.now }
-    {
-        hopmac::verify(
-            Kt128::RATE,
-            Kt128::CHAINING,
-            Self::INNER,
-            key,
-            message,
-            customization,
-            presented,
-        )
-    }
-}
-
-impl HopMac256 {
-    // The bytes of the inner digest.
-    pub const INNER: usize = 64;
-
-    // The tag of a message and a customization string under the key: as many bytes as `out` holds.
-    pub fn tag(key: &[u8], message: &[u8], customization: &[u8], out: &mut [u8]) -> u8
-        ensures value { result ≡ mac_status (length key.now) (length message.now) (length customization.now) (length out.old) }
-        ensures out_after { out.new ≡ mac_output 136 64 64 key.now message.now customization.now out.old }
-    {
-        hopmac::tag(
-            Kt256::RATE,
-            Kt256::CHAINING,
-            Self::INNER,
-            key,
-            message,
-            customization,
-            out,
-        )
-    }
-
-    // Whether the presented tag, of 1 to 64 bytes, is that of the message and the customization string under the key.
-    pub fn verify(key: &[u8], message: &[u8], customization: &[u8], presented: &[u8]) -> Verdict
-        ensures { result ≡ verdict_of 136 64 64 key.now message.now customization.now presented.now }
-    {
-        hopmac::verify(
-            Kt256::RATE,
-            Kt256::CHAINING,
-            Self::INNER,
-            key,
-            message,
-            customization,
-            presented,
-        )
-    }
 }
