@@ -5,9 +5,9 @@ ghost use Rattle.sponge.specs.Model.{absorb_bytes};
 ghost use Rattle.sponge.specs.Transcript.{Call};
 ghost use Rattle.hasher.specs.Function.{long_output};
 ghost use Rattle.sp800_185.specs.Function.{length_status, argument, whole_status, ending};
-ghost use Rattle.sp800_185.specs.Model.{given, answer_of, written_of, output_after};
+ghost use Rattle.sp800_185.specs.Model.{fixes, given, answer_of, written_of, output_after};
 
-use crate::numbers::Numbers;
+use crate::numbers::{Closing, Numbers};
 use crate::{Answer, CSHAKE_LAST, Keyed, ROUNDS, counts, encode};
 use hasher::{LONG_OUTPUT, MESSAGE_LIMIT, Run};
 use sponge::status;
@@ -72,20 +72,20 @@ fn length_status(length: u64) -> u8
 fn close_status(numbers: Numbers, length: u64) -> u8
     ensures { result ≡ argument (given numbers) length }
 {
-    if !numbers.fixes {
-        return status::DONE;
+    match numbers.closing {
+        Closing::Length => length_status(length),
+        _ => status::DONE,
     }
-    length_status(length)
 }
 
 // The output length that a close says and the run then keeps.
 pub(crate) fn said(numbers: Numbers, length: u64) -> u64
-    ensures { result ≡ cond numbers.fixes length 0 }
+    ensures { result ≡ cond (fixes numbers.closing) length 0 }
 {
-    if numbers.fixes {
-        return length;
+    match numbers.closing {
+        Closing::Length => length,
+        _ => 0,
     }
-    0
 }
 
 // Absorbs what the close puts after the message.
@@ -94,10 +94,10 @@ fn absorb_ending(lanes: &mut [u64; 25], position: usize, numbers: Numbers, kept:
     ensures result_after { record { value = lanes.new; position = result } ≡ absorb_bytes (last_rounds 24) numbers.rate (record { value = lanes.old; position = position }) (ending (given numbers) kept) }
     ensures upper_bound { result ≤ numbers.rate }
 {
-    if !numbers.says {
-        return position;
+    match numbers.closing {
+        Closing::Nothing => position,
+        _ => encode::absorb_right(lanes, position, numbers.rate, 8 * kept),
     }
-    encode::absorb_right(lanes, position, numbers.rate, 8 * kept)
 }
 
 pub(crate) fn finalize(numbers: Numbers, keyed: Keyed, length: u64) -> Answer

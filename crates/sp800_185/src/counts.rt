@@ -6,7 +6,7 @@ ghost use Rattle.hasher.specs.Function.{message_limit, long_output};
 ghost use Rattle.sp800_185.specs.Function.{ending, keeps, limit};
 ghost use Rattle.sp800_185.specs.Model.{open_own, closed_own, blocks_fit, is_open, is_closed, reachable, given};
 
-use crate::numbers::Numbers;
+use crate::numbers::{Closing, Numbers};
 use crate::{Keyed, encode};
 use hasher::{LONG_OUTPUT, MESSAGE_LIMIT};
 
@@ -49,10 +49,10 @@ fn ending_length(numbers: Numbers, said: u64) -> u64
     requires { said ≤ long_output }
     ensures { (result ≡ length (ending (given numbers) said)) × (result ≤ 9) }
 {
-    if numbers.says {
-        return encode::right_length(8 * said);
+    match numbers.closing {
+        Closing::Nothing => 0,
+        _ => encode::right_length(8 * said),
     }
-    0
 }
 
 // The permutations of a closed run whose prefix has one block.
@@ -79,23 +79,20 @@ fn blocks_fit(numbers: Numbers, own: u64, permutations: u64) -> bool
 fn keeps_length(numbers: Numbers, kept: u64) -> bool
     ensures { result ≡ keeps (given numbers) kept }
 {
-    if !numbers.fixes {
-        return kept == 0;
+    match numbers.closing {
+        Closing::Length => 0 < kept && kept <= LONG_OUTPUT as u64,
+        _ => kept == 0,
     }
-    if kept == 0 {
-        return false;
-    }
-    kept <= LONG_OUTPUT as u64
 }
 
 // The read limit of a closed run.
 pub(crate) fn read_limit(numbers: Numbers, kept: u64) -> u64
     ensures { result ≡ limit (given numbers) kept }
 {
-    if numbers.fixes {
-        return kept;
+    match numbers.closing {
+        Closing::Length => kept,
+        _ => LONG_OUTPUT as u64,
     }
-    LONG_OUTPUT as u64
 }
 
 fn is_open(numbers: Numbers, keyed: Keyed) -> bool

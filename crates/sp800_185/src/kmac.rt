@@ -6,6 +6,7 @@ ghost use Rattle.sponge.specs.Transcript.{Call};
 ghost use Rattle.hasher.specs.declared.Run.{Run};
 ghost use Rattle.sp800_185.specs.Function.{kmac_at};
 ghost use Rattle.sp800_185.specs.Model as model;
+ghost use Rattle.sp800_185.specs.Model.{says, fixes};
 ghost use Rattle.sp800_185.specs.Kmac.{start_status, start_answer, one_go_status, one_go_output};
 
 use crate::numbers::Numbers;
@@ -49,9 +50,9 @@ pub(crate) fn start(rate: usize, key: &[u8], string: &[u8]) -> Answer
 }
 
 pub(crate) fn tag(numbers: Numbers, key: &[u8], message: &[u8], string: &[u8], out: &mut [u8]) -> u8
-    requires { numbers.says ≡ true }
+    requires { says numbers.closing ≡ true }
     ensures value { result ≡ one_go_status (length key.now) (length string.now) (length message.now) (length out.old) }
-    ensures out_after { out.new ≡ one_go_output numbers.rate numbers.fixes key.now message.now string.now out.old }
+    ensures out_after { out.new ≡ one_go_output numbers.rate (fixes numbers.closing) key.now message.now string.now out.old }
 {
     let asked = out.len() as u64;
     let refusal = start_status(key.len() as u64, string.len() as u64);

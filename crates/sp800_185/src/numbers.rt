@@ -1,13 +1,19 @@
 // What the functions of SP 800-185 differ in.
 ghost use Rattle.std.specs.Prelude.{◌<◌, ◌≤◌};
 
-// The rate, whether the close says an output length after the message, whether it fixes that length, and the fewest and the most blocks before a
-// message.
+// What a close says after the message: nothing, the output length 0, or the output length that it is given, which it fixes.
+#[derive(Clone, Copy)]
+pub(crate) enum Closing {
+    Nothing,
+    Zero,
+    Length,
+}
+
+// The rate, what a close says, and the fewest and the most blocks before a message.
 #[derive(Clone, Copy)]
 pub(crate) struct Numbers {
     pub rate: usize,
-    pub says: bool,
-    pub fixes: bool,
+    pub closing: Closing,
     pub least: u64,
     pub most: u64,
     ghost usable: { (0 < rate) × (rate ≤ 200) × (1 ≤ least) × (least ≤ 2) × (most ≤ 4294967295) },
@@ -25,8 +31,7 @@ impl Numbers {
     {
         Numbers {
             rate,
-            says: false,
-            fixes: false,
+            closing: Closing::Nothing,
             least: 1,
             most,
         }
@@ -39,8 +44,7 @@ impl Numbers {
     {
         Numbers {
             rate,
-            says: true,
-            fixes: true,
+            closing: Closing::Length,
             least: 2,
             most,
         }
@@ -53,8 +57,7 @@ impl Numbers {
     {
         Numbers {
             rate,
-            says: true,
-            fixes: false,
+            closing: Closing::Zero,
             least: 2,
             most,
         }
