@@ -25,7 +25,7 @@ fn half_word_at(s: &[u8], i: usize) -> u64
     requires { i + 4 ≤ length s.now }
     ensures { (result ≡ word (take 4 (drop i s.now))) × (result < 2 ^ 32) }
 {
-    wide(s[i]) + wide(s[i + 1]) * 0x100 + wide(s[i + 2]) * 0x1_0000 + wide(s[i + 3]) * 0x100_0000
+    u64::from(u32::from_le_bytes([s[i], s[i + 1], s[i + 2], s[i + 3]]))
 }
 
 // The same of eight bytes.
@@ -33,7 +33,16 @@ pub(crate) fn word_at(s: &[u8], i: usize) -> u64
     requires { i + 8 ≤ length s.now }
     ensures { result ≡ word (take 8 (drop i s.now)) }
 {
-    half_word_at(s, i) + half_word_at(s, i + 4) * 0x1_0000_0000
+    u64::from_le_bytes([
+        s[i],
+        s[i + 1],
+        s[i + 2],
+        s[i + 3],
+        s[i + 4],
+        s[i + 5],
+        s[i + 6],
+        s[i + 7],
+    ])
 }
 
 // The same of all bytes from index i on, fewer than four: a case for each count costs less than a loop.
@@ -125,14 +134,7 @@ pub(crate) fn put_word(out: &mut [u8], i: usize, w: u64)
     requires { i + 8 ≤ length out.old }
     ensures { out.new ≡ with_word out.old i w }
 {
-    out[i] = (w % 256) as u8;
-    out[i + 1] = ((w >> 8) % 256) as u8;
-    out[i + 2] = ((w >> 16) % 256) as u8;
-    out[i + 3] = ((w >> 24) % 256) as u8;
-    out[i + 4] = ((w >> 32) % 256) as u8;
-    out[i + 5] = ((w >> 40) % 256) as u8;
-    out[i + 6] = ((w >> 48) % 256) as u8;
-    out[i + 7] = ((w >> 56) % 256) as u8;
+    out[i..i + 8].copy_from_slice(&w.to_le_bytes());
 }
 
 // The bytes of the state from byte `at` on, one by one.
