@@ -144,12 +144,13 @@ pub(crate) fn absorb(
     ensures result_after { tree_of node.new leaf.new result ≡ absorb_tree strength.rate strength.chaining (tree_of node.old leaf.old at) piece.now }
 {
     let mut place = at;
-    let mut i = 0;
-    while i < piece.len() {
+    let mut rest = piece;
+    while !rest.is_empty() {
         let next = next_byte(strength, node, leaf, place);
-        let k = (CHUNK - next.position).min(piece.len() - i);
-        place = absorb_part(strength, node, leaf, next, &piece[i..i + k]);
-        i += k;
+        let k = (CHUNK - next.position).min(rest.len());
+        let (part, after) = rest.split_at(k);
+        place = absorb_part(strength, node, leaf, next, part);
+        rest = after;
     }
     place
 }
