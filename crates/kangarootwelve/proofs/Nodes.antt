@@ -74,12 +74,7 @@ module _ (rate : ℕ) (pos : 0 < rate) where
       by zero f l a b = record { final-fits = absorb_in f p a; leaf-fits = b; position-fits = g }
       by (suc i) f l a b = record { final-fits = a; leaf-fits = absorb_in l p b; position-fits = g }
 
-  -- the part that the loop lends has k bytes
-  pub part_length : (p : List ℕ) (i k : ℕ) → i + k ≤ length p → length (take (i + k - i) (drop i p)) ≡ k
-  part_length p i k h =
-      let e : i + k - i ≡ k = omega arith in
-      rw e (length-take-le k (drop i p) (rw length-drop (omega arith)))
-
+  -- the part that the loop takes off has k bytes
   pub part_is : (u : At Tree) (p m : List ℕ) (k : ℕ) → m ≡ take k p → k ≤ length p
       → ◌≡◌ {A = At Tree} (record { value = put_to rate u.value.index u.value.final u.value.leaf m; position = u.position + length m })
       (record { value = put_to rate u.value.index u.value.final u.value.leaf (take k p); position = u.position + k })
