@@ -55,20 +55,14 @@ fn absorb_leaves(
     ensures result_after { tree_of node.new leaf.new result ≡ absorb_tree strength.rate strength.chaining (tree_of node.old leaf.old at) chunks.now }
 {
     let mut place = at;
-    let mut i = 0;
-    while FOUR_CHUNKS < chunks.len() - i {
-        let position = leaves::absorb_four(
-            strength,
-            node,
-            place.node,
-            &chunks[i..i + FOUR_CHUNKS],
-            states,
-            value,
-        );
+    let mut rest = chunks;
+    while FOUR_CHUNKS < rest.len() {
+        let (four, after) = rest.split_at(FOUR_CHUNKS);
+        let position = leaves::absorb_four(strength, node, place.node, four, states, value);
         place = tree::opened(position, place.index + 4);
-        i += FOUR_CHUNKS;
+        rest = after;
     }
-    absorb_last(strength, node, leaf, place, &chunks[i..], states, value)
+    absorb_last(strength, node, leaf, place, rest, states, value)
 }
 
 // Absorbs bytes of S. What comes before the first leaf that begins in the piece, and the leaves after the last four whole ones, go through the tree.

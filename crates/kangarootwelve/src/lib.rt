@@ -6,7 +6,6 @@
 #![tactic(auto)]
 
 mod calls;
-mod encode;
 mod fours;
 mod hopmac;
 mod kt;
@@ -16,7 +15,7 @@ mod reached;
 mod totals;
 mod tree;
 
-ghost use Rattle.std.specs.Prelude.{◌≡◌, ◌<◌, ◌≤◌, ◌%◌};
+ghost use Rattle.std.specs.Prelude.{◌≡◌, ◌<◌, ◌≤◌, ◌%◌, drop};
 ghost use Rattle.kangarootwelve.specs.Model.{encoding_of};
 ghost use Rattle.kangarootwelve.specs.Mac.{same_bytes};
 
@@ -140,6 +139,15 @@ pub struct LengthEncoding {
     pub start: usize,
 }
 
+impl LengthEncoding {
+    // The encoding itself: the bytes from `start` on.
+    pub fn as_slice(&self) -> &[u8]
+        ensures { result.now ≡ drop self.now.start self.now.bytes }
+    {
+        &self.bytes[self.start.min(9)..]
+    }
+}
+
 // What the tag check answers: the status, and whether the presented tag is right, document 01's yes and no.
 #[derive(Clone, Copy)]
 pub struct Verdict {
@@ -152,7 +160,15 @@ pub fn length_encode(x: u64) -> LengthEncoding
     ensures { result ≡ encoding_of x }
 {
     let mut bytes = [0u8; 9];
-    let start = encode::length_encode(x, &mut bytes);
+    let mut start = 8;
+    let mut rest = x;
+    // Kept: the loop counts no index; it takes the digits off the number, the last one first.
+    while 0 < rest {
+        start -= 1;
+        bytes[start] = (rest % 256) as u8;
+        rest /= 256;
+    }
+    bytes[8] = (8 - start) as u8;
     LengthEncoding { bytes, start }
 }
 

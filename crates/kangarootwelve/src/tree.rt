@@ -8,7 +8,7 @@ ghost use Rattle.kangarootwelve.specs.Published.{chunk, intermediate_domain};
 ghost use Rattle.kangarootwelve.specs.Tree.{put_to, end_chunk, absorb_tree, close_to, finish_tree, finalize_tree};
 ghost use Rattle.kangarootwelve.specs.Inside.{tree_of, Fits};
 
-use crate::{Place, Strength, encode};
+use crate::{Place, Strength};
 
 pub(crate) const CHUNK: usize = 8192;
 
@@ -144,12 +144,13 @@ pub(crate) fn absorb(
     ensures result_after { tree_of node.new leaf.new result ≡ absorb_tree strength.rate strength.chaining (tree_of node.old leaf.old at) piece.now }
 {
     let mut place = at;
-    let mut i = 0;
-    while i < piece.len() {
+    let mut rest = piece;
+    while !rest.is_empty() {
         let next = next_byte(strength, node, leaf, place);
-        let k = (CHUNK - next.position).min(piece.len() - i);
-        place = absorb_part(strength, node, leaf, next, &piece[i..i + k]);
-        i += k;
+        let k = (CHUNK - next.position).min(rest.len());
+        let (part, after) = rest.split_at(k);
+        place = absorb_part(strength, node, leaf, next, part);
+        rest = after;
     }
     place
 }
@@ -178,14 +179,13 @@ fn close(strength: Strength, node: &mut [u64; 25], leaf: &mut [u64; 25], at: Pla
         at.leaf,
         &mut value[0..strength.chaining],
     );
-    let mut encoded = [0u8; 9];
-    let start = encode::length_encode(at.index, &mut encoded);
+    let encoded = crate::length_encode(at.index);
     let counted = sponge::absorb(
         node,
         valued,
         strength.rate,
         turboshake::ROUNDS,
-        &encoded[start..9],
+        encoded.as_slice(),
     );
     let trailer = TRAILER;
     let ended = sponge::absorb(
@@ -215,9 +215,8 @@ pub(crate) fn finish(
     requires { Fits strength.rate (tree_of node.old leaf.old at) × (at.index + 9 < 2 ^ 63) }
     ensures { record { value = node.new; position = 0 } ≡ finish_tree strength.rate strength.chaining (tree_of node.old leaf.old at) length }
 {
-    let mut encoded = [0u8; 9];
-    let start = encode::length_encode(length, &mut encoded);
-    let whole = absorb(strength, node, leaf, at, &encoded[start..9]);
+    let encoded = crate::length_encode(length);
+    let whole = absorb(strength, node, leaf, at, encoded.as_slice());
     close(strength, node, leaf, whole);
 }
 
