@@ -1,7 +1,7 @@
 // A run of KT, in hand.
 use crate::calls::Calls;
 use crate::lent;
-use crate::lent::{BEFORE, MOST_WORDS};
+use crate::lent::{BEFORE, MOST_WORDS, Words};
 use crate::line::Line;
 use crate::payload::Payload;
 use crate::record::BadRecord;
@@ -37,7 +37,7 @@ impl Calls for KtInHand {
         let mut words = [BEFORE; MOST_WORDS];
         let words = lent::take(&mut words, u16::from_be_bytes(payload.take()?))?;
         let answer = functions::kt::absorb_abreast(self.function, self.run, payload.rest(), words);
-        Ok(Line::Lent(self.keep(answer), lent::state_of(words)))
+        Ok(Line::Lent(self.keep(answer), Words::of(words)))
     }
 
     fn customize(&mut self, piece: &[u8]) -> Result<u8, BadRecord> {

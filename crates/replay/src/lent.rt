@@ -19,6 +19,18 @@ pub enum Words {
     Other,
 }
 
+impl Words {
+    pub fn of(words: &[u64]) -> Words {
+        if words.iter().all(|word| *word == BEFORE) {
+            return Words::Kept;
+        }
+        if words.iter().all(|word| *word == 0) {
+            return Words::Zero;
+        }
+        Words::Other
+    }
+}
+
 impl fmt::Display for Words {
     fn fmt<W: fmt::Write>(&self, f: &mut fmt::Formatter<W>) -> fmt::Result {
         f.write_str(match self {
@@ -38,16 +50,6 @@ pub fn take(words: &mut [u64; MOST_WORDS], count: u16) -> Result<&mut [u64], Bad
     Ok(&mut words[..count])
 }
 
-pub fn state_of(words: &[u64]) -> Words {
-    if words.iter().all(|word| *word == BEFORE) {
-        return Words::Kept;
-    }
-    if words.iter().all(|word| *word == 0) {
-        return Words::Zero;
-    }
-    Words::Other
-}
-
 // Op k: the number of words, then as K.
 pub fn hash<'a>(mut payload: Payload, buffer: &'a mut [u8; MOST]) -> Result<Line<'a>, BadRecord> {
     let mut words = [BEFORE; MOST_WORDS];
@@ -59,5 +61,5 @@ pub fn hash<'a>(mut payload: Payload, buffer: &'a mut [u8; MOST]) -> Result<Line
         out,
     } = KtAsked::read(payload, buffer)?;
     let status = functions::kt::hash_abreast(function, message, customization, out, words);
-    Ok(Line::LentOutput(status, out, state_of(words)))
+    Ok(Line::LentOutput(status, out, Words::of(words)))
 }

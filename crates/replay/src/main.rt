@@ -112,7 +112,7 @@ fn main(rt: HostRuntime) -> io::Result<()> {
     let mut payload = [0u8; MOST];
     let mut out = [0u8; MOST];
     match replay(&rt, &mut rt.reader(), &mut payload, &mut out) {
-        Err(Stop::Bad) => println!(rt; "bad record"),
+        Err(Stop::Bad(bad)) => println!(rt; "{bad}"),
         Err(Stop::Failed(error)) => Err(error),
         Ok(()) => Ok(()),
     }

@@ -2,21 +2,27 @@
 ghost use Rattle.std.specs.Prelude.{◌≤◌, length, IfOk};
 
 use crate::payload::Payload;
-use std::io;
 use std::io::{ErrorKind, Read};
 use std::num::TryFromIntError;
+use std::{fmt, io};
 
 // The most bytes of a payload, and of an output.
 pub const MOST: usize = 262_144;
 
 // A record that is none of those at the head of main.rt, or that does not fit.
-#[derive(Clone, Copy)]
+#[derive(Clone, Copy, Debug, PartialEq, Eq)]
 pub struct BadRecord;
 
+impl fmt::Display for BadRecord {
+    fn fmt<W: fmt::Write>(&self, f: &mut fmt::Formatter<W>) -> fmt::Result {
+        f.write_str("bad record")
+    }
+}
+
 // Why no record was read.
-#[derive(Drop)]
+#[derive(Debug, Drop)]
 pub enum Stop {
-    Bad,
+    Bad(BadRecord),
     Failed(io::Error),
 }
 
@@ -28,8 +34,8 @@ impl From<TryFromIntError> for BadRecord {
 }
 
 impl From<BadRecord> for Stop {
-    fn from(_bad: BadRecord) -> Stop {
-        Stop::Bad
+    fn from(bad: BadRecord) -> Stop {
+        Stop::Bad(bad)
     }
 }
 
@@ -73,7 +79,7 @@ fn read_full(input: &mut impl Read, buffer: &mut [u8]) -> io::Result<usize>
 // A payload as long as the buffer.
 fn read_payload<'a>(input: &mut impl Read, buffer: &'a mut [u8]) -> Result<Payload<'a>, Stop> {
     if read_full(input, buffer)? < buffer.len() {
-        return Err(Stop::Bad);
+        return Err(BadRecord.into());
     }
     Ok(Payload::of(buffer))
 }
@@ -93,7 +99,7 @@ pub fn read<'a>(
     let n = head.four()? as usize;
     let size = if op == b'R' { 0 } else { n };
     if MOST < size {
-        return Err(Stop::Bad);
+        return Err(BadRecord.into());
     }
     let payload = read_payload(input, &mut buffer[..size])?;
     Ok(Some(Record { op, n, payload }))
