@@ -7,8 +7,8 @@ ghost use Rattle.kangarootwelve.specs.Model.{fresh_of, answer_of, answer_abreast
 ghost use Rattle.kangarootwelve.specs.declared.Run.{Run};
 
 use crate::{Kt128, Kt256, Run, Strength, calls, one_go};
-use hasher::HasherAnswer;
-use turboshake::{TurboShake128, TurboShake256};
+use hasher::{Hasher, HasherAnswer};
+use turboshake::{TurboShake, TurboShake128, TurboShake256};
 
 impl Strength {
     pub(crate) fn of<K: Kt>() -> Strength

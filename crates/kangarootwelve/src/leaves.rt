@@ -23,6 +23,7 @@ fn absorb_chunks(states: &mut [u64], strength: Strength, chunks: &[u8]) -> usize
     let first = sponge::four::xor_block(states, chunks, 0, strength.rate);
     let mut p = strength.rate;
     let mut i = strength.rate;
+    // Kept: the last block is shorter, so that `step_by` would give the offsets, and their lengths would be worked out all the same.
     while i < tree::CHUNK {
         let full = abreast::permute_in_place(states, turboshake::ROUNDS);
         p = strength.rate.min(tree::CHUNK - i);

@@ -89,7 +89,7 @@ struct Progress {
     permutations: u64,
 }
 
-// What a call leaves of a run beside its lanes, and its status.
+// What a call leaves of a run beside its lanes, and its status. Kept: one equation says what a call answers, done or refused, which a Result would split.
 #[derive(Clone, Copy)]
 struct Moved {
     at: Progress,
@@ -148,6 +148,7 @@ impl LengthEncoding {
     }
 }
 
+// Kept: `verdict_of` in specs/Mac.antt fixes both fields.
 // What the tag check answers: the status, and whether the presented tag is right, document 01's yes and no.
 #[derive(Clone, Copy)]
 pub struct Verdict {

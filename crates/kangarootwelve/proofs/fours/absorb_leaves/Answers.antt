@@ -3,7 +3,7 @@
 use mathlib.Core.Path.{◌≡◌, refl, sym, ap, ◌∙◌, subst}
 use Prim.Native.Nat.{ℕ, ◌+◌, ◌%◌, ◌≤◌}
 use native.Mathlib.Omega.{arith}
-use lib.ListN.{length, drop}
+use lib.ListN.{length}
 use mathlib.Core.List.{List}
 use Rattle.keccak.specs.Permutation.{permuted}
 use Rattle.sponge.specs.Model.{absorb_bytes}

@@ -1,5 +1,5 @@
 use Prim.Native.Nat.{◌-◌}
-use lib.ListN.{take, drop, replicate}
+use lib.ListN.{take, replicate}
 use Rattle.kangarootwelve.specs.Published.{trailer}
 use Rattle.kangarootwelve.proofs.Nodes.{value-length, single_row, final_row, closed}
 use Rattle.kangarootwelve.proofs.Encoding.{encoding_slice}
