@@ -3,6 +3,22 @@ use crate::line::Line;
 use crate::payload::Payload;
 use crate::record::BadRecord;
 
+// A field of a run by its number, and the value that op S writes to it.
+#[derive(Clone, Copy)]
+pub struct Field {
+    pub number: u8,
+    pub value: u64,
+}
+
+impl Field {
+    fn read(mut payload: Payload) -> Result<Field, BadRecord> {
+        let number = payload.byte()?;
+        let value = u64::from_be_bytes(payload.take()?);
+        payload.end()?;
+        Ok(Field { number, value })
+    }
+}
+
 // A call leaves in hand the run that was handed back, and its answer is the status.
 pub trait Calls {
     fn absorb(&mut self, piece: &[u8]) -> u8;
@@ -11,8 +27,7 @@ pub trait Calls {
 
     fn squeeze(&mut self, out: &mut [u8]) -> u8;
 
-    // Writes the field of this number.
-    fn set(&mut self, field: u8, value: u64) -> Result<(), BadRecord>;
+    fn set(&mut self, field: Field) -> Result<(), BadRecord>;
 
     fn line(&self) -> Line<'static>;
 
@@ -31,7 +46,7 @@ pub trait Calls {
         Err(BadRecord)
     }
 
-    final fn answer(&mut self, op: u8, mut payload: Payload) -> Result<Line<'static>, BadRecord> {
+    final fn answer(&mut self, op: u8, payload: Payload) -> Result<Line<'static>, BadRecord> {
         match op {
             b'A' => Ok(Line::Status(self.absorb(payload.rest()))),
             b'a' => self.absorb_abreast(payload),
@@ -42,10 +57,7 @@ pub trait Calls {
                 Ok(Line::Status(self.finish()?))
             }
             b'S' => {
-                let field = payload.byte()?;
-                let value = u64::from_be_bytes(payload.take()?);
-                payload.end()?;
-                self.set(field, value)?;
+                self.set(Field::read(payload)?)?;
                 Ok(Line::Set)
             }
             b'D' => {

@@ -1,5 +1,5 @@
 // A day, in hand: its run is one of KT.
-use crate::calls::Calls;
+use crate::calls::{Calls, Field};
 use crate::kt_run;
 use crate::line::Line;
 use crate::payload::Payload;
@@ -33,8 +33,8 @@ impl Calls for Journal {
         keep(self, Journal::squeeze(*self, out))
     }
 
-    fn set(&mut self, field: u8, value: u64) -> Result<(), BadRecord> {
-        kt_run::write(&mut self.run, field, value)
+    fn set(&mut self, field: Field) -> Result<(), BadRecord> {
+        kt_run::write(&mut self.run, field)
     }
 
     fn line(&self) -> Line<'static> {

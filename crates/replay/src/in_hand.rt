@@ -29,6 +29,7 @@ impl InHand {
         }
     }
 
+    // Kept: two matches, since `rt ci` refuses a function that hands out a `dyn Calls` of the run.
     fn answer(&mut self, op: u8, payload: Payload) -> Result<Line<'static>, BadRecord> {
         match self {
             InHand::Sponge(run) => run.answer(op, payload),

@@ -1,5 +1,5 @@
 // A run of SP 800-185, in hand.
-use crate::calls::Calls;
+use crate::calls::{Calls, Field};
 use crate::line::Line;
 use crate::payload::Payload;
 use crate::record::BadRecord;
@@ -54,15 +54,15 @@ impl Calls for KeyedInHand {
     }
 
     // A run of KMAC has its output length as 7, one of cSHAKE as 8 the bit that says SHAKE.
-    fn set(&mut self, field: u8, value: u64) -> Result<(), BadRecord> {
-        match (own_field(self.function), field) {
-            (Some(OwnField::Length), 7) => self.run.output_length = value,
-            (Some(OwnField::Bit), 8) => match value {
+    fn set(&mut self, field: Field) -> Result<(), BadRecord> {
+        match (own_field(self.function), field.number) {
+            (Some(OwnField::Length), 7) => self.run.output_length = field.value,
+            (Some(OwnField::Bit), 8) => match field.value {
                 0 => self.run.shake = false,
                 1 => self.run.shake = true,
                 _ => return Err(BadRecord),
             },
-            _ => return sponge_run::write(&mut self.run.run, field, value),
+            _ => return sponge_run::write(&mut self.run.run, field),
         }
         Ok(())
     }

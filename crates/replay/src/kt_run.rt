@@ -1,5 +1,5 @@
 // A run of KT, in hand.
-use crate::calls::Calls;
+use crate::calls::{Calls, Field};
 use crate::lent;
 use crate::lent::{BEFORE, MOST_WORDS, Words};
 use crate::line::Line;
@@ -57,8 +57,8 @@ impl Calls for KtInHand {
         self.keep(functions::kt::squeeze(self.function, self.run, out))
     }
 
-    fn set(&mut self, field: u8, value: u64) -> Result<(), BadRecord> {
-        write(&mut self.run, field, value)
+    fn set(&mut self, field: Field) -> Result<(), BadRecord> {
+        write(&mut self.run, field)
     }
 
     fn line(&self) -> Line<'static> {
@@ -68,8 +68,9 @@ impl Calls for KtInHand {
 
 // Writes a field by its number, as of a run of the sponge: the position and the lanes are the final node's; 4 is the leaf's position, 5 the
 // customization bytes, and 96 + i lane i of the leaf.
-pub fn write(run: &mut Run, field: u8, value: u64) -> Result<(), BadRecord> {
-    match field {
+pub fn write(run: &mut Run, field: Field) -> Result<(), BadRecord> {
+    let Field { number, value } = field;
+    match number {
         0 => run.phase = u8::try_from(value)?,
         1 => run.absorbed = value,
         2 => run.squeezed = value,
@@ -77,8 +78,8 @@ pub fn write(run: &mut Run, field: u8, value: u64) -> Result<(), BadRecord> {
         4 => run.leaf.position = value as usize,
         5 => run.customized = value,
         6 => run.permutations = value,
-        64..=88 => run.node.lanes[(field - 64) as usize] = value,
-        96..=120 => run.leaf.lanes[(field - 96) as usize] = value,
+        64..=88 => run.node.lanes[(number - 64) as usize] = value,
+        96..=120 => run.leaf.lanes[(number - 96) as usize] = value,
         _ => return Err(BadRecord),
     }
     Ok(())

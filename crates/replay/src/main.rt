@@ -67,6 +67,7 @@ use std::io;
 use std::io::Read;
 
 // N and n leave another run in hand; T, B, K, k, M, H, V, P and I need none, and leave the one there is as it is.
+// Kept: the ops stay the letters of the records; an enum of them would be read by one more match with the same arms.
 fn answer<'a>(
     in_hand: &mut Option<InHand>,
     record: Record,

@@ -1,4 +1,6 @@
 // The records that ask for a hash in one go.
+//
+// Kept: the payload and the buffer of the output are two parameters, since parts of the one are given to the call beside what is lent of the other.
 use crate::by_number::Named;
 use crate::line::Line;
 use crate::payload::Payload;

@@ -19,7 +19,7 @@ impl fmt::Display for BadRecord {
     }
 }
 
-// Why no record was read.
+// Why no further record is read.
 #[derive(Debug, Drop)]
 pub enum Stop {
     Bad(BadRecord),

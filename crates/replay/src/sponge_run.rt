@@ -1,5 +1,5 @@
 // A run of TurboSHAKE or of FIPS 202, in hand.
-use crate::calls::Calls;
+use crate::calls::{Calls, Field};
 use crate::line::Line;
 use crate::payload::Payload;
 use crate::record::BadRecord;
@@ -20,6 +20,7 @@ impl SpongeInHand {
         }
     }
 
+    // Kept: once for each kind of run, since `functions` has an answer of its own for each.
     fn keep(&mut self, answer: Answer) -> u8 {
         self.run = answer.run;
         answer.status
@@ -41,8 +42,8 @@ impl Calls for SpongeInHand {
         self.keep(functions::squeeze(self.function, self.run, out))
     }
 
-    fn set(&mut self, field: u8, value: u64) -> Result<(), BadRecord> {
-        write(&mut self.run, field, value)
+    fn set(&mut self, field: Field) -> Result<(), BadRecord> {
+        write(&mut self.run, field)
     }
 
     fn line(&self) -> Line<'static> {
@@ -51,14 +52,16 @@ impl Calls for SpongeInHand {
 }
 
 // Writes a field by its number: phase, bytes absorbed, bytes squeezed, position; 6 is the permutations; 64 + i is lane i.
-pub fn write(run: &mut Run, field: u8, value: u64) -> Result<(), BadRecord> {
-    match field {
+// Kept: the fields stay the numbers of the records, which name lanes by a sum.
+pub fn write(run: &mut Run, field: Field) -> Result<(), BadRecord> {
+    let Field { number, value } = field;
+    match number {
         0 => run.phase = u8::try_from(value)?,
         1 => run.absorbed = value,
         2 => run.squeezed = value,
         3 => run.position = value as usize,
         6 => run.permutations = value,
-        64..=88 => run.lanes[(field - 64) as usize] = value,
+        64..=88 => run.lanes[(number - 64) as usize] = value,
         _ => return Err(BadRecord),
     }
     Ok(())
