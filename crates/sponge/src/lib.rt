@@ -15,7 +15,7 @@ ghost use Rattle.sponge.specs.Waiting.{ready};
 ghost use Rattle.sponge.specs.Model.{absorb_bytes, squeeze_bytes, after_bytes, valid, call_status};
 ghost use Rattle.sponge.specs.Model as model;
 
-// What a call answers: its status and the position that it leaves.
+// What a call answers: its status and the position that it leaves. Kept: a public answer, which refuses by number.
 #[derive(Clone, Copy)]
 pub struct Answer {
     pub status: u8,
@@ -78,13 +78,13 @@ fn absorb_blocks(
     ensures { record { value = lanes.new; position = result } ≡ absorb_bytes (last_rounds rounds) rate (record { value = lanes.old; position = position }) piece.now }
 {
     let mut p = position;
-    let mut i = 0;
-    while i < piece.len() {
+    let mut rest = piece;
+    while 0 < rest.len() {
         let at = next_position(lanes, p, rate, rounds);
-        let k = (rate - at).min(piece.len() - i);
-        block::xor_part(lanes, at, &piece[i..i + k]);
-        p = at + k;
-        i += k;
+        let (part, others) = rest.split_at((rate - at).min(rest.len()));
+        block::xor_part(lanes, at, part);
+        p = at + part.len();
+        rest = others;
     }
     p
 }
