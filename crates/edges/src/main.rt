@@ -14,7 +14,7 @@ use functions::Function;
 use hasher::{Answer, Refusal, Run};
 use line::{LONGEST, write_answer};
 use pieces::{Pieces, done};
-use std::{fmt, io};
+use std::{array, fmt, io};
 use turboshake::{TurboShake128, TurboShake256};
 
 const DOMAIN: u8 = 0x1f;
@@ -84,11 +84,9 @@ impl Pieces for TurboShakeRun {
     }
 }
 
-// Fills the buffer with ptn: 00 to FA, over and over.
-fn fill(buffer: &mut [u8]) {
-    for (i, byte) in buffer.iter_mut().enumerate() {
-        *byte = (i % 251) as u8;
-    }
+// The first bytes of ptn: 00 to FA, over and over.
+fn ptn<const N: usize>() -> [u8; N] {
+    array::from_fn(|i| (i % 251) as u8)
 }
 
 // The first n bytes, of which the buffer holds as many as are asked.
@@ -181,8 +179,7 @@ fn write_edges(rt: &impl Print, turboshake: TurboShake, buffer: &[u8]) -> io::Re
 }
 
 fn main(rt: HostRuntime) -> io::Result<()> {
-    let mut buffer = [0u8; LONGEST];
-    fill(&mut buffer);
+    let buffer = ptn::<LONGEST>();
     write_edges(&rt, TurboShake::Bits128, &buffer)?;
     write_edges(&rt, TurboShake::Bits256, &buffer)?;
     kt::write_edges(&rt)

@@ -14,9 +14,9 @@ pub trait Pieces {
 
     fn squeeze(&mut self, out: &mut [u8]) -> Result<(), Refusal>;
 
-    // Each piece from the buffer's start.
+    // Each piece from the start of a buffer that has 8,192 zero bytes before it is filled (docs/PROOFS.md names it).
     fn absorb_message(&mut self, message: Message) -> Result<(), Refusal> {
-        let mut buffer = [0u8; PIECE];
+        let mut buffer = [0u8; 8192];
         message.fill(&mut buffer);
         let length = message.length();
         for start in (0..length).step_by(PIECE) {
