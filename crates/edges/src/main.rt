@@ -11,7 +11,7 @@ mod pieces;
 ghost use Rattle.std.specs.Prelude.{◌≤◌, All};
 
 use functions::Function;
-use hasher::{Answer, Refusal, Run};
+use hasher::{Answer, Hasher, Refusal, Run};
 use line::{LONGEST, write_answer};
 use pieces::{Pieces, done};
 use std::{array, fmt, io};
