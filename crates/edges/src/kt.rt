@@ -67,6 +67,7 @@ struct KtRun<'a> {
 }
 
 impl KtRun<'_> {
+    // Kept: `functions` answers its calls by a type for each kind of run.
     fn keep(&mut self, answer: KtAnswer) -> Result<(), Refusal> {
         self.run = answer.run;
         done(answer.status)
@@ -87,6 +88,7 @@ impl Pieces for KtRun<'_> {
     }
 }
 
+// Kept: the enum is of `functions`, which has no Display of it.
 fn name(function: KtFunction) -> &'static str {
     match function {
         KtFunction::Kt128 => "KT128",

@@ -22,6 +22,7 @@ const DOMAIN: u8 = 0x1f;
 // Two that are taken, three that are refused.
 const DOMAINS: [u8; 5] = [0x01, 0x7f, 0x00, 0x80, 0xff];
 
+// Kept: edges and vectors share it, and a crate with its contract and edits would be longer.
 #[derive(Clone, Copy)]
 enum TurboShake {
     Bits128,
@@ -64,6 +65,7 @@ struct TurboShakeRun {
 }
 
 impl TurboShakeRun {
+    // Kept: `functions` answers its calls by a type for each kind of run.
     fn keep(&mut self, answer: Answer) -> Result<(), Refusal> {
         self.run = answer.run;
         done(answer.status)
@@ -90,6 +92,7 @@ fn ptn<const N: usize>() -> [u8; N] {
 }
 
 // The first n bytes, of which the buffer holds as many as are asked.
+// Kept: three lines, as in keyed.
 fn pattern(buffer: &[u8], n: usize) -> &[u8] {
     &buffer[..n.min(buffer.len())]
 }

@@ -10,6 +10,7 @@ use std::io;
 // The longest output: two blocks and a byte.
 const LONGEST: usize = 337;
 
+// Kept: the enum is of `functions`, which has no Display of it.
 fn name(function: KeyedFunction) -> &'static str {
     match function {
         KeyedFunction::CShake128 => "cSHAKE128",

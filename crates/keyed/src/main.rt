@@ -33,6 +33,7 @@ const OUTPUTS: [u64; 12] = [
 ];
 
 // The first n bytes, of which the buffer holds as many as are asked.
+// Kept: three lines, as in edges.
 fn pattern(buffer: &[u8], n: usize) -> &[u8] {
     &buffer[..n.min(buffer.len())]
 }

@@ -5,6 +5,7 @@ use hasher::{HasherAnswer, Refusal};
 // The longest piece of a message: 32 times the pattern, so that the next piece begins with 00 again.
 pub const PIECE: usize = 8032;
 
+// Kept: a crate with its contract and edits for what the programs share would be longer.
 pub fn done(status: u8) -> Result<(), Refusal> {
     HasherAnswer { hasher: (), status }.done()
 }
