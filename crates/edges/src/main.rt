@@ -97,6 +97,7 @@ fn pattern(buffer: &[u8], n: usize) -> &[u8] {
     &buffer[..n.min(buffer.len())]
 }
 
+// Kept: what is asked is a plain number with a bound, since a type for it would be built and taken apart at each call.
 fn write_both(
     rt: &impl Print,
     turboshake: TurboShake,

@@ -60,6 +60,7 @@ fn write_cut(
     )
 }
 
+// Kept: what is asked is a plain number with a bound, since a type for it would be built and taken apart at each call.
 pub fn write(
     rt: &impl Print,
     function: KeyedFunction,

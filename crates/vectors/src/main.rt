@@ -113,6 +113,7 @@ fn digest(
     run.squeeze_halves(out)
 }
 
+// Kept: what is asked is a plain number with a bound, since a type for it would be built and taken apart at each call.
 fn write_vector(
     rt: &impl Print,
     turboshake: TurboShake,
