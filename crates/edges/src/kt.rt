@@ -7,7 +7,7 @@ ghost use Rattle.std.specs.Prelude.{◌≤◌};
 
 use crate::line::write_answer;
 use crate::pieces::{Pieces, done};
-use crate::{fill, output_lengths, pattern};
+use crate::{output_lengths, pattern, ptn};
 use functions::kt::{KtAnswer, KtFunction};
 use hasher::Refusal;
 use kangarootwelve::{Kt128, Kt256, Run};
@@ -67,6 +67,7 @@ struct KtRun<'a> {
 }
 
 impl KtRun<'_> {
+    // Kept: `functions` answers its calls by a type for each kind of run.
     fn keep(&mut self, answer: KtAnswer) -> Result<(), Refusal> {
         self.run = answer.run;
         done(answer.status)
@@ -87,6 +88,7 @@ impl Pieces for KtRun<'_> {
     }
 }
 
+// Kept: the enum is of `functions`, which has no Display of it.
 fn name(function: KtFunction) -> &'static str {
     match function {
         KtFunction::Kt128 => "KT128",
@@ -176,8 +178,7 @@ fn write_outputs(
 }
 
 pub fn write_edges(rt: &impl Print) -> io::Result<()> {
-    let mut buffer = [0u8; 65536];
-    fill(&mut buffer);
+    let buffer = ptn::<65536>();
     for (function, rate, pairs) in [
         (KtFunction::Kt128, Kt128::RATE, PAIRS_128),
         (KtFunction::Kt256, Kt256::RATE, PAIRS_256),

@@ -8,6 +8,7 @@ use std::io;
 pub const LONGEST: usize = 337;
 
 // Writes the status of a call that is asked for so many bytes, and its buffer, which holds A5 in every byte before.
+// Kept: the call answers a number, since the line has it.
 pub fn write_answer<F: FnOnce(&mut [u8]) -> u8>(
     rt: &impl Print,
     asked: usize,

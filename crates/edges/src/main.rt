@@ -11,10 +11,10 @@ mod pieces;
 ghost use Rattle.std.specs.Prelude.{◌≤◌, All};
 
 use functions::Function;
-use hasher::{Answer, Refusal, Run};
+use hasher::{Answer, Hasher, Refusal, Run};
 use line::{LONGEST, write_answer};
 use pieces::{Pieces, done};
-use std::{fmt, io};
+use std::{array, fmt, io};
 use turboshake::{TurboShake128, TurboShake256};
 
 const DOMAIN: u8 = 0x1f;
@@ -22,6 +22,7 @@ const DOMAIN: u8 = 0x1f;
 // Two that are taken, three that are refused.
 const DOMAINS: [u8; 5] = [0x01, 0x7f, 0x00, 0x80, 0xff];
 
+// Kept: edges and vectors share it, and a crate with its contract and edits would be longer.
 #[derive(Clone, Copy)]
 enum TurboShake {
     Bits128,
@@ -64,6 +65,7 @@ struct TurboShakeRun {
 }
 
 impl TurboShakeRun {
+    // Kept: `functions` answers its calls by a type for each kind of run.
     fn keep(&mut self, answer: Answer) -> Result<(), Refusal> {
         self.run = answer.run;
         done(answer.status)
@@ -84,18 +86,18 @@ impl Pieces for TurboShakeRun {
     }
 }
 
-// Fills the buffer with ptn: 00 to FA, over and over.
-fn fill(buffer: &mut [u8]) {
-    for (i, byte) in buffer.iter_mut().enumerate() {
-        *byte = (i % 251) as u8;
-    }
+// The first bytes of ptn: 00 to FA, over and over.
+fn ptn<const N: usize>() -> [u8; N] {
+    array::from_fn(|i| (i % 251) as u8)
 }
 
 // The first n bytes, of which the buffer holds as many as are asked.
+// Kept: three lines, as in keyed.
 fn pattern(buffer: &[u8], n: usize) -> &[u8] {
     &buffer[..n.min(buffer.len())]
 }
 
+// Kept: what is asked is a plain number with a bound, since a type for it would be built and taken apart at each call.
 fn write_both(
     rt: &impl Print,
     turboshake: TurboShake,
@@ -181,8 +183,7 @@ fn write_edges(rt: &impl Print, turboshake: TurboShake, buffer: &[u8]) -> io::Re
 }
 
 fn main(rt: HostRuntime) -> io::Result<()> {
-    let mut buffer = [0u8; LONGEST];
-    fill(&mut buffer);
+    let buffer = ptn::<LONGEST>();
     write_edges(&rt, TurboShake::Bits128, &buffer)?;
     write_edges(&rt, TurboShake::Bits256, &buffer)?;
     kt::write_edges(&rt)

@@ -6,6 +6,7 @@ const PIECE: usize = 7;
 
 const OUTPUT_PIECE: usize = 5;
 
+// Kept: a crate with its contract and edits for what the programs share would be longer.
 pub fn done(status: u8) -> Result<(), Refusal> {
     HasherAnswer { hasher: (), status }.done()
 }
@@ -36,6 +37,7 @@ pub trait Pieces {
     }
 
     // The status of the first call that is refused, or 0.
+    // Kept: a number, since the line has it.
     fn hash(&mut self, message: &[u8], out: &mut [u8]) -> u8 {
         match self.hash_pieces(message, out) {
             Ok(()) => DONE,

@@ -10,6 +10,7 @@ use std::io;
 // The longest output: two blocks and a byte.
 const LONGEST: usize = 337;
 
+// Kept: the enum is of `functions`, which has no Display of it.
 fn name(function: KeyedFunction) -> &'static str {
     match function {
         KeyedFunction::CShake128 => "cSHAKE128",
@@ -59,6 +60,7 @@ fn write_cut(
     )
 }
 
+// Kept: what is asked is a plain number with a bound, since a type for it would be built and taken apart at each call.
 pub fn write(
     rt: &impl Print,
     function: KeyedFunction,

@@ -14,7 +14,7 @@ ghost use Rattle.std.specs.Prelude.{◌≤◌};
 use functions::keyed::KeyedFunction;
 use pieces::Inputs;
 use sp800_185::{CShake128, CShake256};
-use std::io;
+use std::{array, io};
 
 // 128 and 8,193: the longest S ends with the buffer.
 const SIZE: usize = 8321;
@@ -32,14 +32,8 @@ const OUTPUTS: [u64; 12] = [
     0, 1, 31, 32, 8191, 8192, 2097151, 2097152, 536870911, 536870912, 4294967295, 4294967296,
 ];
 
-// 00 to FA, over and over.
-fn fill(buffer: &mut [u8]) {
-    for (i, byte) in buffer.iter_mut().enumerate() {
-        *byte = (i % 251) as u8;
-    }
-}
-
 // The first n bytes, of which the buffer holds as many as are asked.
+// Kept: three lines, as in edges.
 fn pattern(buffer: &[u8], n: usize) -> &[u8] {
     &buffer[..n.min(buffer.len())]
 }
@@ -176,8 +170,8 @@ fn write_cshake_samples(rt: &impl Print, buffer: &[u8; SIZE]) -> io::Result<()> 
 }
 
 fn main(rt: HostRuntime) -> io::Result<()> {
-    let mut buffer = [0u8; SIZE];
-    fill(&mut buffer);
+    // 00 to FA, over and over
+    let buffer: [u8; SIZE] = array::from_fn(|i| (i % 251) as u8);
     write_kmac_samples(&rt, KeyedFunction::Kmac128, KeyedFunction::Kmac256, &buffer)?;
     write_kmac_samples(
         &rt,

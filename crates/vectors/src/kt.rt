@@ -22,6 +22,7 @@ const CUSTOMIZED: [(Message, usize); 8] = [
     (Message::Pattern(8192), 8190),
 ];
 
+// Kept: the enum is of `functions`, which has no Display of it.
 fn name(function: KtFunction) -> &'static str {
     match function {
         KtFunction::Kt128 => "KT128",
@@ -51,6 +52,7 @@ impl KtRun {
         KtRun { function, run }
     }
 
+    // Kept: `functions` answers its calls by a type for each kind of run.
     fn keep(&mut self, answer: KtAnswer) -> Result<(), Refusal> {
         self.run = answer.run;
         done(answer.status)

@@ -34,6 +34,7 @@ const FF: [(usize, u8); 6] = [
     (3, 0x7f),
 ];
 
+// Kept: edges and vectors share it, and a crate with its contract and edits would be longer.
 #[derive(Clone, Copy)]
 enum TurboShake {
     Bits128,
@@ -75,6 +76,7 @@ struct TurboShakeRun {
 }
 
 impl TurboShakeRun {
+    // Kept: `functions` answers its calls by a type for each kind of run.
     fn keep(&mut self, answer: Answer) -> Result<(), Refusal> {
         self.run = answer.run;
         done(answer.status)
@@ -111,6 +113,7 @@ fn digest(
     run.squeeze_halves(out)
 }
 
+// Kept: what is asked is a plain number with a bound, since a type for it would be built and taken apart at each call.
 fn write_vector(
     rt: &impl Print,
     turboshake: TurboShake,
