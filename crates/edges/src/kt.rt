@@ -10,7 +10,7 @@ use crate::pieces::{Pieces, done};
 use crate::{output_lengths, pattern, ptn};
 use functions::kt::{KtAnswer, KtFunction};
 use hasher::Refusal;
-use kangarootwelve::{Kt128, Kt256, Run};
+use kangarootwelve::{Kt, Kt128, Kt256, Run};
 use std::io;
 
 const MESSAGES: [usize; 25] = [

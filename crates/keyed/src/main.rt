@@ -13,7 +13,7 @@ ghost use Rattle.std.specs.Prelude.{◌≤◌};
 
 use functions::keyed::KeyedFunction;
 use pieces::Inputs;
-use sp800_185::{CShake128, CShake256};
+use sp800_185::{CShake, CShake128, CShake256};
 use std::{array, io};
 
 // 128 and 8,193: the longest S ends with the buffer.

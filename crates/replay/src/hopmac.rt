@@ -3,7 +3,7 @@ use crate::by_number::Strength;
 use crate::line::Line;
 use crate::payload::Payload;
 use crate::record::{BadRecord, MOST};
-use kangarootwelve::{HopMac128, HopMac256};
+use kangarootwelve::{HopMac, HopMac128, HopMac256};
 
 // Op H.
 pub fn tag<'a>(mut payload: Payload, buffer: &'a mut [u8; MOST]) -> Result<Line<'a>, BadRecord> {

@@ -5,6 +5,7 @@ use crate::by_number::Named;
 use crate::line::Line;
 use crate::payload::Payload;
 use crate::record::{BadRecord, MOST};
+use functions::Closing;
 use functions::kt::KtFunction;
 
 // Op T, of a function that has a domain byte, and op B, of one that has none.
@@ -16,7 +17,7 @@ pub fn sponge<'a>(
     let Named::Sponge(function) = Named::try_from(payload.byte()?)? else {
         return Err(BadRecord);
     };
-    if function.domain != domain {
+    if matches!(function.closing, Closing::Domain) != domain {
         return Err(BadRecord);
     }
     let last = payload.domain(function)?;

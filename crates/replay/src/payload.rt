@@ -1,6 +1,6 @@
 // The payload of a record, taken from its front. Numbers have their most significant byte first.
 use crate::record::{BadRecord, MOST};
-use functions::Function;
+use functions::{Closing, Function};
 
 // What each byte of an output holds before the call, so that a byte which no call wrote can be told.
 const BEFORE: u8 = 0xa5;
@@ -35,7 +35,10 @@ impl<'a> Payload<'a> {
 
     // The domain byte where the function has one, else nothing, and 0 for it.
     pub fn domain(&mut self, function: Function) -> Result<u8, BadRecord> {
-        if function.domain { self.byte() } else { Ok(0) }
+        match function.closing {
+            Closing::Domain => self.byte(),
+            Closing::Last(_) => Ok(0),
+        }
     }
 
     // The bytes that have their length before them.
