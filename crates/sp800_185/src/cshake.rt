@@ -1,6 +1,7 @@
 // cSHAKE at both strengths: a start, the calls after it, and in one go. With both strings of its start empty it is SHAKE.
 ghost use Rattle.std.specs.Prelude.{◌≡◌, ℕ, Bool, true, false, ◌<◌, ◌≤◌, length};
 ghost use Rattle.sponge.specs.Transcript.{Call};
+ghost use Rattle.hasher.specs.Function.{long_output};
 ghost use Rattle.hasher.specs.declared.Run.{Run};
 ghost use Rattle.sp800_185.specs.Cshake.{start_status, start_answer, answer, written, one_go_status, one_go_output};
 ghost use Rattle.sp800_185.specs.Published.{both_empty};
@@ -31,6 +32,17 @@ fn start_status(name: u64, string: u64) -> u8
         return status::CUSTOMIZATION_TOO_LONG;
     }
     status::DONE
+}
+
+// What SHAKE is to the hasher.
+fn shake_numbers(rate: usize) -> hasher::Numbers
+    ensures { result ≡ record { rate = rate; rounds = 24; limit = long_output } }
+{
+    hasher::Numbers {
+        rate,
+        rounds: ROUNDS,
+        limit: LONG_OUTPUT,
+    }
 }
 
 pub trait CShake: Copy {
@@ -94,7 +106,7 @@ pub trait CShake: Copy {
     {
         let run = self.run();
         if self.shake() {
-            let hashed = hasher::absorb(Self::RATE, ROUNDS, LONG_OUTPUT, run, piece);
+            let hashed = hasher::absorb(shake_numbers(Self::RATE), run, piece);
             return HasherAnswer {
                 hasher: Self::from_run(hashed.run, true),
                 status: hashed.status,
@@ -115,14 +127,7 @@ pub trait CShake: Copy {
     {
         let run = self.run();
         if self.shake() {
-            let hashed = hasher::finalize(
-                Self::RATE,
-                ROUNDS,
-                LONG_OUTPUT,
-                run,
-                status::DONE,
-                SHAKE_LAST,
-            );
+            let hashed = hasher::finalize(shake_numbers(Self::RATE), run, status::DONE, SHAKE_LAST);
             return HasherAnswer {
                 hasher: Self::from_run(hashed.run, true),
                 status: hashed.status,
@@ -144,7 +149,7 @@ pub trait CShake: Copy {
     {
         let run = self.run();
         if self.shake() {
-            let hashed = hasher::squeeze(Self::RATE, ROUNDS, LONG_OUTPUT, run, out);
+            let hashed = hasher::squeeze(shake_numbers(Self::RATE), run, out);
             return HasherAnswer {
                 hasher: Self::from_run(hashed.run, true),
                 status: hashed.status,
@@ -170,9 +175,7 @@ pub trait CShake: Copy {
         }
         if both_empty(name, string) {
             return hasher::hash(
-                Self::RATE,
-                ROUNDS,
-                LONG_OUTPUT,
+                shake_numbers(Self::RATE),
                 message,
                 status::DONE,
                 SHAKE_LAST,
