@@ -15,8 +15,9 @@ PRINTED = 160  # as many characters of an error does rt print of an edit
 ERROR = re.compile(r"(?:\./)?(\S+?):\d+:\d+: error: `([^`]+)`: .*")
 # A goal for which no answer is written: where the code owes it, and its name, which rt may have cut.
 GOAL = re.compile(r"note: (?:\./)?(src/\S+?)\.rt:(\d+):\d+: it is not proved that .*?\(`([^`]+)(?:(`\)).*)?")
-FN = re.compile(r"^( *)(?:pub(?:\(\w+\))? )?(?:const )?(?:unsafe )?(?:extern \"C\" )?fn (\w+)")
-IMPL = re.compile(r"impl(?:<[^{]*?>)? (?:[^{]* for )?(\w+)")
+# A function, or a constant of an `impl` of a trait, which is proved as one; and what it stands in.
+FN = re.compile(r"^( *)(?:pub(?:\(\w+\))? )?(?:(?:const )?(?:unsafe )?(?:extern \"C\" )?fn|const(?= \w+:)) (\w+)")
+HEAD = re.compile(r"(?:pub(?:\(\w+\))? )?(?:trait (?P<own>\w+)|impl(?:<[^{]*?>)? (?:(?P<trait>\w+)[^{]* for )?(?P<type>\w+))")
 
 
 class Bad(Exception):
@@ -53,7 +54,8 @@ def apply(edit, folder):
 
 
 def function_at(source, number):
-    """The type, if it is a method, and the name of the function that is at or before this line of a source, or begins right after its attributes."""
+    """The name of the function that is at or before this line of a source, or begins right after its attributes; before it, if it is a method, the type,
+    with the trait behind it where it is that trait's, or the trait, where it stands there."""
     lines = source.split("\n")
     at = number - 1
     while at < len(lines) - 1 and lines[at].lstrip().startswith("#["):
@@ -62,8 +64,8 @@ def function_at(source, number):
         found = FN.match(lines[at])
         if found:
             head = next((line for line in reversed(lines[:at]) if line[:1] not in ("", " ", "/", "#")), "")
-            of = IMPL.match(head) if found[1] else None
-            return [of[1], found[2]] if of else [found[2]]
+            of = HEAD.match(head) if found[1] else None
+            return [of["own"] or of["type"] + (of["trait"] or ""), found[2]] if of else [found[2]]
         at -= 1
     raise Bad(f"there is no function at line {number}")
 

@@ -250,6 +250,17 @@ impl S {
 #[unsafe(no_mangle)]
 pub extern "C" fn three() {
 }
+
+pub trait T: Copy {
+    const N: usize;
+
+    fn four(self) {
+    }
+}
+
+impl T for S {
+    const N: usize = 1;
+}
 """
     NOTE = "note: src/a/b.rt:{}:5: it is not proved that the sum fits its type (at a range `..=n`, `n + 1`) (`overflow_add-result`); the facts (`x`) known"
 
@@ -257,7 +268,7 @@ pub extern "C" fn three() {
         """The place is that of the answer which is not written, of the function at the line in the source with the edit."""
         (self.crate / "src/a").mkdir()
         (self.crate / "src/a/b.rt").write_text(self.SOURCE)
-        for line, function in ((1, "one"), (4, "one"), (12, "S/two"), (15, "S/two"), (19, "three"), (20, "three")):
+        for line, function in ((1, "one"), (4, "one"), (12, "S/two"), (15, "S/two"), (19, "three"), (20, "three"), (24, "T/N"), (26, "T/four"), (31, "ST/N")):
             self.assertEqual("/".join(function_at(self.SOURCE, line)), function)
             for note, said in ((self.NOTE.format(line), ""), (self.NOTE.format(line), "./proofs/P.antt:1:2: error: `f`: no\n")):
                 self.edit.write_text(f"# first error: proofs/a/b/{function}/Answers.antt overflow_add-result\n{self.PAIR}")

@@ -1,11 +1,12 @@
-// The functions of FIPS 202, section 6, for messages of whole bytes, in one go and in pieces: a type for each, whose calls stand in `sha3`, `shake`
-// and, on lent lanes, in `in_place`. They are `hasher`'s, given the function's numbers.
+// The functions of FIPS 202, section 6, for messages of whole bytes, in one go and in pieces: a type for each, whose calls are those of the traits
+// `Hasher` and `Fips202`. What each type is stands in `sha3` and `shake`.
 #![tactic(auto)]
 
-mod in_place;
+mod function;
 mod sha3;
 mod shake;
 
+pub use function::Fips202;
 use hasher::Run;
 
 // The rounds of the permutation: Keccak-f[1600] has all of them.
@@ -29,24 +30,10 @@ pub struct Sha3_224 {
     pub run: Run,
 }
 
-// What a call on it answers: the status, and the run, which is the one given where the status is not 0.
-#[derive(Clone, Copy)]
-pub struct Sha3_224Answer {
-    pub hasher: Sha3_224,
-    pub status: u8,
-}
-
 // A run of SHA3-256.
 #[derive(Clone, Copy)]
 pub struct Sha3_256 {
     pub run: Run,
-}
-
-// What a call on it answers: the status, and the run, which is the one given where the status is not 0.
-#[derive(Clone, Copy)]
-pub struct Sha3_256Answer {
-    pub hasher: Sha3_256,
-    pub status: u8,
 }
 
 // A run of SHA3-384.
@@ -55,24 +42,10 @@ pub struct Sha3_384 {
     pub run: Run,
 }
 
-// What a call on it answers: the status, and the run, which is the one given where the status is not 0.
-#[derive(Clone, Copy)]
-pub struct Sha3_384Answer {
-    pub hasher: Sha3_384,
-    pub status: u8,
-}
-
 // A run of SHA3-512.
 #[derive(Clone, Copy)]
 pub struct Sha3_512 {
     pub run: Run,
-}
-
-// What a call on it answers: the status, and the run, which is the one given where the status is not 0.
-#[derive(Clone, Copy)]
-pub struct Sha3_512Answer {
-    pub hasher: Sha3_512,
-    pub status: u8,
 }
 
 // A run of SHAKE128.
@@ -81,22 +54,8 @@ pub struct Shake128 {
     pub run: Run,
 }
 
-// What a call on it answers: the status, and the run, which is the one given where the status is not 0.
-#[derive(Clone, Copy)]
-pub struct Shake128Answer {
-    pub hasher: Shake128,
-    pub status: u8,
-}
-
 // A run of SHAKE256.
 #[derive(Clone, Copy)]
 pub struct Shake256 {
     pub run: Run,
-}
-
-// What a call on it answers: the status, and the run, which is the one given where the status is not 0.
-#[derive(Clone, Copy)]
-pub struct Shake256Answer {
-    pub hasher: Shake256,
-    pub status: u8,
 }

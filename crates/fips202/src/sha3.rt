@@ -1,331 +1,169 @@
 // SHA3-224, SHA3-256, SHA3-384 and SHA3-512: FIPS 202, section 6.1. The digest's length is the most that is read.
-ghost use Rattle.std.specs.Prelude.{◌≡◌, length};
-ghost use Rattle.sponge.specs.Transcript.{Call};
-ghost use Rattle.hasher.specs.Model.{fresh_of, answer, written, one_go_status, one_go_output};
-ghost use Rattle.fips202.specs.Transcript.{sha3_224, sha3_256, sha3_384, sha3_512};
+ghost use Rattle.std.specs.Prelude.{refl};
 
-use crate::{
-    ROUNDS, SHA3_LAST, Sha3_224, Sha3_224Answer, Sha3_256, Sha3_256Answer, Sha3_384,
-    Sha3_384Answer, Sha3_512, Sha3_512Answer,
-};
-use sponge::status;
+use crate::{Fips202, ROUNDS, SHA3_LAST, Sha3_224, Sha3_256, Sha3_384, Sha3_512};
+use hasher::{Hasher, Run};
 
 impl Sha3_224 {
-    pub const RATE: usize = 144;
-
-    pub const CAPACITY: usize = 56;
-
-    // The bytes of a digest, and the most that are read.
+    // The digest, in bytes.
     pub const DIGEST: u32 = 28;
+}
 
-    // A fresh run: nothing absorbed, nothing squeezed.
-    pub fn fresh() -> Self
-        ensures { result.run ≡ fresh_of }
-    {
-        let run = hasher::fresh();
+impl Hasher for Sha3_224 {
+    ghost run_of = { λ hasher. hasher.run };
+
+    ghost RATE = { 144 };
+
+    const RATE: usize = 144;
+
+    ghost ROUNDS = { 24 };
+
+    const ROUNDS: usize = ROUNDS;
+
+    ghost LIMIT = { 28 };
+
+    const LIMIT: u32 = Self::DIGEST;
+
+    fn run(self) -> Run {
+        self.run
+    }
+
+    fn from_run(run: Run) -> Self {
         Sha3_224 { run }
     }
+}
 
-    // Absorbs a piece of the message.
-    pub fn absorb(self, piece: &[u8]) -> Sha3_224Answer
-        ensures { record { run = result.hasher.run; status = result.status } ≡ answer sha3_224 self.run (Call.absorb piece.now) }
-    {
-        let answered = hasher::absorb(Self::RATE, ROUNDS, Self::DIGEST, self.run, piece);
-        let run = answered.run;
-        let hasher = Sha3_224 { run };
-        Sha3_224Answer {
-            hasher,
-            status: answered.status,
-        }
-    }
+impl Fips202 for Sha3_224 {
+    ghost CAPACITY = { 56 };
 
-    // Ends the message.
-    pub fn finalize(self) -> Sha3_224Answer
-        ensures { record { run = result.hasher.run; status = result.status } ≡ answer sha3_224 self.run (Call.finalize tt) }
-    {
-        let answered = hasher::finalize(
-            Self::RATE,
-            ROUNDS,
-            Self::DIGEST,
-            self.run,
-            status::DONE,
-            SHA3_LAST,
-        );
-        let run = answered.run;
-        let hasher = Sha3_224 { run };
-        Sha3_224Answer {
-            hasher,
-            status: answered.status,
-        }
-    }
+    const CAPACITY: usize = 56;
 
-    // Squeezes as many bytes of the digest as `out` holds; past its end nothing is given.
-    pub fn squeeze(self, out: &mut [u8]) -> Sha3_224Answer
-        ensures status_value { record { run = result.hasher.run; status = result.status } ≡ answer sha3_224 self.run (Call.squeeze (length out.old)) }
-        ensures out_after { out.new ≡ written sha3_224 self.run out.old }
-    {
-        let answered = hasher::squeeze(Self::RATE, ROUNDS, Self::DIGEST, self.run, out);
-        let run = answered.run;
-        let hasher = Sha3_224 { run };
-        Sha3_224Answer {
-            hasher,
-            status: answered.status,
-        }
-    }
+    ghost LAST = { 0x06 };
 
-    // In one go: the message, and as many bytes of the digest as `out` holds.
-    pub fn hash(message: &[u8], out: &mut [u8]) -> u8
-        ensures value { result ≡ one_go_status sha3_224 (length message.now) tt (length out.old) }
-        ensures out_after { out.new ≡ one_go_output sha3_224 message.now tt out.old }
-    {
-        hasher::hash(
-            Self::RATE,
-            ROUNDS,
-            Self::DIGEST,
-            message,
-            status::DONE,
-            SHA3_LAST,
-            out,
-        )
-    }
+    const LAST: u8 = SHA3_LAST;
+
+    ghost all_rounds = { refl };
 }
 
 impl Sha3_256 {
-    pub const RATE: usize = 136;
-
-    pub const CAPACITY: usize = 64;
-
-    // The bytes of a digest, and the most that are read.
+    // The digest, in bytes.
     pub const DIGEST: u32 = 32;
+}
 
-    // A fresh run: nothing absorbed, nothing squeezed.
-    pub fn fresh() -> Self
-        ensures { result.run ≡ fresh_of }
-    {
-        let run = hasher::fresh();
+impl Hasher for Sha3_256 {
+    ghost run_of = { λ hasher. hasher.run };
+
+    ghost RATE = { 136 };
+
+    const RATE: usize = 136;
+
+    ghost ROUNDS = { 24 };
+
+    const ROUNDS: usize = ROUNDS;
+
+    ghost LIMIT = { 32 };
+
+    const LIMIT: u32 = Self::DIGEST;
+
+    fn run(self) -> Run {
+        self.run
+    }
+
+    fn from_run(run: Run) -> Self {
         Sha3_256 { run }
     }
+}
 
-    // Absorbs a piece of the message.
-    pub fn absorb(self, piece: &[u8]) -> Sha3_256Answer
-        ensures { record { run = result.hasher.run; status = result.status } ≡ answer sha3_256 self.run (Call.absorb piece.now) }
-    {
-        let answered = hasher::absorb(Self::RATE, ROUNDS, Self::DIGEST, self.run, piece);
-        let run = answered.run;
-        let hasher = Sha3_256 { run };
-        Sha3_256Answer {
-            hasher,
-            status: answered.status,
-        }
-    }
+impl Fips202 for Sha3_256 {
+    ghost CAPACITY = { 64 };
 
-    // Ends the message.
-    pub fn finalize(self) -> Sha3_256Answer
-        ensures { record { run = result.hasher.run; status = result.status } ≡ answer sha3_256 self.run (Call.finalize tt) }
-    {
-        let answered = hasher::finalize(
-            Self::RATE,
-            ROUNDS,
-            Self::DIGEST,
-            self.run,
-            status::DONE,
-            SHA3_LAST,
-        );
-        let run = answered.run;
-        let hasher = Sha3_256 { run };
-        Sha3_256Answer {
-            hasher,
-            status: answered.status,
-        }
-    }
+    const CAPACITY: usize = 64;
 
-    // Squeezes as many bytes of the digest as `out` holds; past its end nothing is given.
-    pub fn squeeze(self, out: &mut [u8]) -> Sha3_256Answer
-        ensures status_value { record { run = result.hasher.run; status = result.status } ≡ answer sha3_256 self.run (Call.squeeze (length out.old)) }
-        ensures out_after { out.new ≡ written sha3_256 self.run out.old }
-    {
-        let answered = hasher::squeeze(Self::RATE, ROUNDS, Self::DIGEST, self.run, out);
-        let run = answered.run;
-        let hasher = Sha3_256 { run };
-        Sha3_256Answer {
-            hasher,
-            status: answered.status,
-        }
-    }
+    ghost LAST = { 0x06 };
 
-    // In one go: the message, and as many bytes of the digest as `out` holds.
-    pub fn hash(message: &[u8], out: &mut [u8]) -> u8
-        ensures value { result ≡ one_go_status sha3_256 (length message.now) tt (length out.old) }
-        ensures out_after { out.new ≡ one_go_output sha3_256 message.now tt out.old }
-    {
-        hasher::hash(
-            Self::RATE,
-            ROUNDS,
-            Self::DIGEST,
-            message,
-            status::DONE,
-            SHA3_LAST,
-            out,
-        )
-    }
+    const LAST: u8 = SHA3_LAST;
+
+    ghost all_rounds = { refl };
 }
 
 impl Sha3_384 {
-    pub const RATE: usize = 104;
-
-    pub const CAPACITY: usize = 96;
-
-    // The bytes of a digest, and the most that are read.
+    // The digest, in bytes.
     pub const DIGEST: u32 = 48;
+}
 
-    // A fresh run: nothing absorbed, nothing squeezed.
-    pub fn fresh() -> Self
-        ensures { result.run ≡ fresh_of }
-    {
-        let run = hasher::fresh();
+impl Hasher for Sha3_384 {
+    ghost run_of = { λ hasher. hasher.run };
+
+    ghost RATE = { 104 };
+
+    const RATE: usize = 104;
+
+    ghost ROUNDS = { 24 };
+
+    const ROUNDS: usize = ROUNDS;
+
+    ghost LIMIT = { 48 };
+
+    const LIMIT: u32 = Self::DIGEST;
+
+    fn run(self) -> Run {
+        self.run
+    }
+
+    fn from_run(run: Run) -> Self {
         Sha3_384 { run }
-    }
-
-    // Absorbs a piece of the message.
-    pub fn absorb(self, piece: &[u8]) -> Sha3_384Answer
-        ensures { record { run = result.hasher.run; status = result.status } ≡ answer sha3_384 self.run (Call.absorb piece.now) }
-    {
-        let answered = hasher::absorb(Self::RATE, ROUNDS, Self::DIGEST, self.run, piece);
-        let run = answered.run;
-        let hasher = Sha3_384 { run };
-        Sha3_384Answer {
-            hasher,
-            status: answered.status,
-        }
-    }
-
-    // Ends the message.
-    pub fn finalize(self) -> Sha3_384Answer
-        ensures { record { run = result.hasher.run; status = result.status } ≡ answer sha3_384 self.run (Call.finalize tt) }
-    {
-        let answered = hasher::finalize(
-            Self::RATE,
-            ROUNDS,
-            Self::DIGEST,
-            self.run,
-            status::DONE,
-            SHA3_LAST,
-        );
-        let run = answered.run;
-        let hasher = Sha3_384 { run };
-        Sha3_384Answer {
-            hasher,
-            status: answered.status,
-        }
-    }
-
-    // Squeezes as many bytes of the digest as `out` holds; past its end nothing is given.
-    pub fn squeeze(self, out: &mut [u8]) -> Sha3_384Answer
-        ensures status_value { record { run = result.hasher.run; status = result.status } ≡ answer sha3_384 self.run (Call.squeeze (length out.old)) }
-        ensures out_after { out.new ≡ written sha3_384 self.run out.old }
-    {
-        let answered = hasher::squeeze(Self::RATE, ROUNDS, Self::DIGEST, self.run, out);
-        let run = answered.run;
-        let hasher = Sha3_384 { run };
-        Sha3_384Answer {
-            hasher,
-            status: answered.status,
-        }
-    }
-
-    // In one go: the message, and as many bytes of the digest as `out` holds.
-    pub fn hash(message: &[u8], out: &mut [u8]) -> u8
-        ensures value { result ≡ one_go_status sha3_384 (length message.now) tt (length out.old) }
-        ensures out_after { out.new ≡ one_go_output sha3_384 message.now tt out.old }
-    {
-        hasher::hash(
-            Self::RATE,
-            ROUNDS,
-            Self::DIGEST,
-            message,
-            status::DONE,
-            SHA3_LAST,
-            out,
-        )
     }
 }
 
+impl Fips202 for Sha3_384 {
+    ghost CAPACITY = { 96 };
+
+    const CAPACITY: usize = 96;
+
+    ghost LAST = { 0x06 };
+
+    const LAST: u8 = SHA3_LAST;
+
+    ghost all_rounds = { refl };
+}
+
 impl Sha3_512 {
-    pub const RATE: usize = 72;
-
-    pub const CAPACITY: usize = 128;
-
-    // The bytes of a digest, and the most that are read.
+    // The digest, in bytes.
     pub const DIGEST: u32 = 64;
+}
 
-    // A fresh run: nothing absorbed, nothing squeezed.
-    pub fn fresh() -> Self
-        ensures { result.run ≡ fresh_of }
-    {
-        let run = hasher::fresh();
+impl Hasher for Sha3_512 {
+    ghost run_of = { λ hasher. hasher.run };
+
+    ghost RATE = { 72 };
+
+    const RATE: usize = 72;
+
+    ghost ROUNDS = { 24 };
+
+    const ROUNDS: usize = ROUNDS;
+
+    ghost LIMIT = { 64 };
+
+    const LIMIT: u32 = Self::DIGEST;
+
+    fn run(self) -> Run {
+        self.run
+    }
+
+    fn from_run(run: Run) -> Self {
         Sha3_512 { run }
     }
+}
 
-    // Absorbs a piece of the message.
-    pub fn absorb(self, piece: &[u8]) -> Sha3_512Answer
-        ensures { record { run = result.hasher.run; status = result.status } ≡ answer sha3_512 self.run (Call.absorb piece.now) }
-    {
-        let answered = hasher::absorb(Self::RATE, ROUNDS, Self::DIGEST, self.run, piece);
-        let run = answered.run;
-        let hasher = Sha3_512 { run };
-        Sha3_512Answer {
-            hasher,
-            status: answered.status,
-        }
-    }
+impl Fips202 for Sha3_512 {
+    ghost CAPACITY = { 128 };
 
-    // Ends the message.
-    pub fn finalize(self) -> Sha3_512Answer
-        ensures { record { run = result.hasher.run; status = result.status } ≡ answer sha3_512 self.run (Call.finalize tt) }
-    {
-        let answered = hasher::finalize(
-            Self::RATE,
-            ROUNDS,
-            Self::DIGEST,
-            self.run,
-            status::DONE,
-            SHA3_LAST,
-        );
-        let run = answered.run;
-        let hasher = Sha3_512 { run };
-        Sha3_512Answer {
-            hasher,
-            status: answered.status,
-        }
-    }
+    const CAPACITY: usize = 128;
 
-    // Squeezes as many bytes of the digest as `out` holds; past its end nothing is given.
-    pub fn squeeze(self, out: &mut [u8]) -> Sha3_512Answer
-        ensures status_value { record { run = result.hasher.run; status = result.status } ≡ answer sha3_512 self.run (Call.squeeze (length out.old)) }
-        ensures out_after { out.new ≡ written sha3_512 self.run out.old }
-    {
-        let answered = hasher::squeeze(Self::RATE, ROUNDS, Self::DIGEST, self.run, out);
-        let run = answered.run;
-        let hasher = Sha3_512 { run };
-        Sha3_512Answer {
-            hasher,
-            status: answered.status,
-        }
-    }
+    ghost LAST = { 0x06 };
 
-    // In one go: the message, and as many bytes of the digest as `out` holds.
-    pub fn hash(message: &[u8], out: &mut [u8]) -> u8
-        ensures value { result ≡ one_go_status sha3_512 (length message.now) tt (length out.old) }
-        ensures out_after { out.new ≡ one_go_output sha3_512 message.now tt out.old }
-    {
-        hasher::hash(
-            Self::RATE,
-            ROUNDS,
-            Self::DIGEST,
-            message,
-            status::DONE,
-            SHA3_LAST,
-            out,
-        )
-    }
+    const LAST: u8 = SHA3_LAST;
+
+    ghost all_rounds = { refl };
 }

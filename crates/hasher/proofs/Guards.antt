@@ -15,7 +15,8 @@ use Rattle.sponge.proofs.Valid.{taken-fits, taken-rounds}
 use Rattle.sponge.proofs.Lent.{lent-refused}
 use Rattle.sponge.proofs.Joining.{perform_is}
 use Rattle.hasher.specs.Function.{Function, rules}
-use Rattle.hasher.specs.Model.{machine, seen, held, guarded, perform_of, written_of, answer_of, output_of, plain, ending, map_call, answer, written}
+use Rattle.hasher.specs.Model.{machine, seen, held, guarded, perform_of, written_of, answer_of, output_of, Ending, function_of, plain, ending, map_call, answer, written}
+use Rattle.hasher.specs.declared.Numbers.{Numbers}
 use Rattle.hasher.specs.declared.Run.{Run}
 use Rattle.hasher.specs.declared.Answer.{Answer}
 
@@ -48,6 +49,15 @@ module _ {A : Type 0} (F : Function A) where
     pub output_is : (r : Run) (out : List ℕ) → written_of F r out ≡ output_of F r out
     unfolding output_of
     output_is r out = rw taken
+
+-- ---- numbers m that the code was given as n, and has found to be taken
+
+module _ (m n : Numbers) (same : m ≡ n) (taken : call_status n.rounds n.rate 0 ≡ 0) where
+  pub answer-taken : (r : Run) (c : Call Ending) → perform_of (function_of m) r c ≡ answer_of (function_of n) r c
+  answer-taken r c = ap (λ (k : Numbers). perform_of (function_of k) r c) same ∙ answer_is (function_of n) taken r c
+
+  pub output-taken : (r : Run) (out : List ℕ) → written_of (function_of m) r out ≡ output_of (function_of n) r out
+  output-taken r out = ap (λ (k : Numbers). written_of (function_of k) r out) same ∙ output_is (function_of n) taken r out
 
 -- ---- the code's calls, which see three numbers and an ending, are the function's
 

@@ -1,3 +1,4 @@
 pub mod Function
 pub mod Model
 pub mod Claims
+pub mod Outcome

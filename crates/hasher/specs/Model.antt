@@ -11,6 +11,7 @@ use Rattle.sponge.specs.Transcript.{Call, Call.absorb, Call.customize, Call.fina
 use Rattle.sponge.specs.Runs as runs
 use Rattle.sponge.specs.Runs.{Machine, perform}
 use Rattle.hasher.specs.Function.{message_limit, Function, permutation, rules}
+use Rattle.hasher.specs.declared.Numbers.{Numbers}
 use Rattle.hasher.specs.declared.Run.{Run}
 use Rattle.hasher.specs.declared.Progress.{Progress}
 use Rattle.hasher.specs.declared.Moved.{Moved}
@@ -81,6 +82,10 @@ pub record Ending : Type 0 where
 
 abbrev pub numbers : ℕ → ℕ → ℕ → Function Ending
 numbers rate rounds limit = record { rate = rate; rounds = rounds; byte = λ e. e.byte; argument = λ e. e.status; output_limit = limit }
+
+-- by what the code holds them in
+abbrev pub function_of : Numbers → Function Ending
+function_of n = numbers n.rate n.rounds n.limit
 
 -- a call with other arguments of the close
 abbrev pub map_call : {A B : Type 0} → (A → B) → Call A → Call B

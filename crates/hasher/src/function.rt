@@ -5,27 +5,22 @@ ghost use Rattle.sponge.specs.Transcript.{Call};
 ghost use Rattle.hasher.specs.Model.{fresh_of, numbers, answer_of, output_of, run_with, answered};
 ghost use Rattle.hasher.specs.declared.Run.{Run};
 
-use crate::{Moved, Progress, Run, in_place};
-
-// What a call on a run answers: the status, and the run, which is the one given where the status is not 0.
-#[derive(Clone, Copy)]
-pub struct HasherAnswer<H: Copy> {
-    pub hasher: H,
-    pub status: u8,
-}
+use crate::{Answer, HasherAnswer, Moved, Numbers, Progress, Run, in_place};
 
 pub trait Hasher: Copy {
     ghost run_of: { Self → Run };
 
-    // The rate in bytes, the rounds of the permutation, and the most bytes of output.
+    // The rate, in bytes: what is left of the 200 of a state once the capacity is taken off.
     ghost RATE: { ℕ };
 
     const RATE: usize;
 
+    // The rounds of the permutation: 24 are Keccak-f[1600], fewer the last ones of it.
     ghost ROUNDS: { ℕ };
 
     const ROUNDS: usize;
 
+    // The most bytes of output: the digest's, where the function has one.
     ghost LIMIT: { ℕ };
 
     const LIMIT: u32;
@@ -35,6 +30,25 @@ pub trait Hasher: Copy {
 
     fn from_run(run: Run) -> Self
         ensures { run_of result ≡ run };
+
+    fn from_answer(answer: Answer) -> HasherAnswer<Self>
+        ensures { record { run = run_of result.hasher; status = result.status } ≡ answer }
+    {
+        HasherAnswer {
+            hasher: Self::from_run(answer.run),
+            status: answer.status,
+        }
+    }
+
+    fn numbers() -> Numbers
+        ensures { result ≡ record { rate = RATE; rounds = ROUNDS; limit = LIMIT } }
+    {
+        Numbers {
+            rate: Self::RATE,
+            rounds: Self::ROUNDS,
+            limit: Self::LIMIT,
+        }
+    }
 
     // A fresh run: nothing absorbed, nothing squeezed.
     fn fresh() -> Self
@@ -47,11 +61,7 @@ pub trait Hasher: Copy {
     fn absorb(self, piece: &[u8]) -> HasherAnswer<Self>
         ensures { record { run = run_of result.hasher; status = result.status } ≡ answer_of (numbers RATE ROUNDS LIMIT) (run_of self) (Call.absorb piece.now) }
     {
-        let answered = crate::absorb(Self::RATE, Self::ROUNDS, Self::LIMIT, self.run(), piece);
-        HasherAnswer {
-            hasher: Self::from_run(answered.run),
-            status: answered.status,
-        }
+        Self::from_answer(crate::absorb(Self::numbers(), self.run(), piece))
     }
 
     // Squeezes as many bytes of output as `out` holds.
@@ -59,24 +69,20 @@ pub trait Hasher: Copy {
         ensures value { record { run = run_of result.hasher; status = result.status } ≡ answer_of (numbers RATE ROUNDS LIMIT) (run_of self) (Call.squeeze (length out.old)) }
         ensures out_after { out.new ≡ output_of (numbers RATE ROUNDS LIMIT) (run_of self) out.old }
     {
-        let answered = crate::squeeze(Self::RATE, Self::ROUNDS, Self::LIMIT, self.run(), out);
-        HasherAnswer {
-            hasher: Self::from_run(answered.run),
-            status: answered.status,
-        }
+        Self::from_answer(crate::squeeze(Self::numbers(), self.run(), out))
     }
 
-    // The same on a run whose lanes are lent.
+    // The same on a run whose lanes are lent: no lane is copied. What the run holds beside them goes in and comes back by value.
     fn absorb_in_place(lanes: &mut [u64; 25], at: Progress, piece: &[u8]) -> Moved
         ensures { answered result lanes.new ≡ answer_of (numbers RATE ROUNDS LIMIT) (run_with lanes.old at) (Call.absorb piece.now) }
     {
-        in_place::absorb(Self::RATE, Self::ROUNDS, Self::LIMIT, lanes, at, piece)
+        in_place::absorb(Self::numbers(), lanes, at, piece)
     }
 
     fn squeeze_in_place(lanes: &mut [u64; 25], at: Progress, out: &mut [u8]) -> Moved
         ensures lanes_after { answered result lanes.new ≡ answer_of (numbers RATE ROUNDS LIMIT) (run_with lanes.old at) (Call.squeeze (length out.old)) }
         ensures out_after { out.new ≡ output_of (numbers RATE ROUNDS LIMIT) (run_with lanes.old at) out.old }
     {
-        in_place::squeeze(Self::RATE, Self::ROUNDS, Self::LIMIT, lanes, at, out)
+        in_place::squeeze(Self::numbers(), lanes, at, out)
     }
 }

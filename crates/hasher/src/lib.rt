@@ -1,17 +1,19 @@
-// A hasher: the sponge as a run that is absorbed into, finalized and squeezed, and in one go. What the functions above differ in, the rate, the
-// rounds, the last byte and the most bytes of output, each call is given.
+// A hasher: the sponge as a run that is absorbed into, finalized and squeezed, and in one go. What the functions above differ in, their numbers and
+// the byte that ends a message, each call is given; a type of such runs has them by the trait `Hasher`.
 #![tactic(auto)]
 
 mod calls;
 mod function;
 pub mod in_place;
+mod outcome;
 
 ghost use Rattle.std.specs.Prelude.{◌≡◌, length};
 ghost use Rattle.sponge.specs.Transcript.{Call};
-ghost use Rattle.hasher.specs.Model.{fresh_of, numbers, progress_of, run_with, answered, answer_of, output_of, hash_at_status, hash_at_output};
+ghost use Rattle.hasher.specs.Model.{fresh_of, function_of, progress_of, run_with, answered, answer_of, output_of, hash_at_status, hash_at_output};
 
-pub use function::{Hasher, HasherAnswer};
-use sponge::status;
+use calls::Taken;
+pub use function::Hasher;
+pub use outcome::{HasherAnswer, Refusal};
 
 // The most bytes of a message.
 pub const MESSAGE_LIMIT: u64 = 17179869183;
@@ -20,8 +22,17 @@ pub const MESSAGE_LIMIT: u64 = 17179869183;
 // rate.
 pub const LONG_OUTPUT: u32 = 4294967295;
 
+// The numbers in which the functions differ: the rate in bytes, the rounds of the permutation, and the most bytes of output.
+#[derive(Clone, Copy, Debug, PartialEq, Eq)]
+pub struct Numbers {
+    pub rate: usize,
+    pub rounds: usize,
+    pub limit: u32,
+}
+
 // A run: document 01's fixed-size state with its place, phase (0 absorbing, 1 squeezing), bytes fed and bytes read, and request Q-10's permutations
 // of the definition so far.
+// Kept: the phase is a number, since a run is taken from anywhere, and one whose phase is neither 0 nor 1 is refused with 5.
 #[derive(Clone, Copy)]
 pub struct Run {
     pub lanes: [u64; 25],
@@ -33,6 +44,7 @@ pub struct Run {
 }
 
 // What a run holds beside its lanes.
+// Kept: its fields stand in a run too, where callers and theorems name them.
 #[derive(Clone, Copy)]
 pub struct Progress {
     pub position: usize,
@@ -43,6 +55,7 @@ pub struct Progress {
 }
 
 // What a call on lent lanes answers: the status, and what the run then holds beside them, which is what was given where the status is not 0.
+// Kept: calls refuse by number, and a refusal hands the run back as it was.
 #[derive(Clone, Copy)]
 pub struct Moved {
     pub at: Progress,
@@ -72,6 +85,7 @@ pub fn fresh() -> Run
 }
 
 // What the run holds beside its lanes.
+// Kept: callers name these two conversions.
 pub fn progress_of(run: Run) -> Progress
     ensures { result ≡ progress_of run }
 {
@@ -109,57 +123,41 @@ fn answer_with(lanes: [u64; 25], moved: Moved) -> Answer
 }
 
 // Absorbs a piece of the message.
-pub fn absorb(rate: usize, rounds: usize, limit: u32, run: Run, piece: &[u8]) -> Answer
-    ensures { result ≡ answer_of (numbers rate rounds limit) run (Call.absorb piece.now) }
+pub fn absorb(numbers: Numbers, run: Run, piece: &[u8]) -> Answer
+    ensures { result ≡ answer_of (function_of numbers) run (Call.absorb piece.now) }
 {
     let mut lanes = run.lanes;
-    let moved = in_place::absorb(rate, rounds, limit, &mut lanes, progress_of(run), piece);
+    let moved = in_place::absorb(numbers, &mut lanes, progress_of(run), piece);
     answer_with(lanes, moved)
 }
 
 // Ends the message with the byte `last`, whose own status is `refusal`.
-pub fn finalize(rate: usize, rounds: usize, limit: u32, run: Run, refusal: u8, last: u8) -> Answer
-    ensures { result ≡ answer_of (numbers rate rounds limit) run (Call.finalize (record { byte = last; status = refusal })) }
+// Kept: the two stay apart, as callers give them: the one is what they close with, the other their own test of it.
+pub fn finalize(numbers: Numbers, run: Run, refusal: u8, last: u8) -> Answer
+    ensures { result ≡ answer_of (function_of numbers) run (Call.finalize (record { byte = last; status = refusal })) }
 {
     let mut lanes = run.lanes;
-    let moved = in_place::finalize(
-        rate,
-        rounds,
-        limit,
-        &mut lanes,
-        progress_of(run),
-        refusal,
-        last,
-    );
+    let moved = in_place::finalize(numbers, &mut lanes, progress_of(run), refusal, last);
     answer_with(lanes, moved)
 }
 
 // Squeezes as many bytes of output as `out` holds.
-pub fn squeeze(rate: usize, rounds: usize, limit: u32, run: Run, out: &mut [u8]) -> Answer
-    ensures value { result ≡ answer_of (numbers rate rounds limit) run (Call.squeeze (length out.old)) }
-    ensures out_after { out.new ≡ output_of (numbers rate rounds limit) run out.old }
+pub fn squeeze(numbers: Numbers, run: Run, out: &mut [u8]) -> Answer
+    ensures value { result ≡ answer_of (function_of numbers) run (Call.squeeze (length out.old)) }
+    ensures out_after { out.new ≡ output_of (function_of numbers) run out.old }
 {
     let mut lanes = run.lanes;
-    let moved = in_place::squeeze(rate, rounds, limit, &mut lanes, progress_of(run), out);
+    let moved = in_place::squeeze(numbers, &mut lanes, progress_of(run), out);
     answer_with(lanes, moved)
 }
 
 // In one go: the message, the byte that follows it, with its own status, and as many bytes of output as `out` holds.
-pub fn hash(
-    rate: usize,
-    rounds: usize,
-    limit: u32,
-    message: &[u8],
-    refusal: u8,
-    last: u8,
-    out: &mut [u8],
-) -> u8
-    ensures value { result ≡ hash_at_status rate rounds limit (length message.now) refusal (length out.old) }
-    ensures out_after { out.new ≡ hash_at_output rate rounds limit message.now refusal last out.old }
+pub fn hash(numbers: Numbers, message: &[u8], refusal: u8, last: u8, out: &mut [u8]) -> u8
+    ensures value { result ≡ hash_at_status numbers.rate numbers.rounds numbers.limit (length message.now) refusal (length out.old) }
+    ensures out_after { out.new ≡ hash_at_output numbers.rate numbers.rounds numbers.limit message.now refusal last out.old }
 {
-    let number = sponge::call_status(rounds, rate, 0);
-    if number != status::DONE {
-        return number;
+    match Taken::of(numbers) {
+        Ok(taken) => taken.hash(message, refusal, last, out),
+        Err(number) => number,
     }
-    calls::hash(rate, rounds, limit, message, refusal, last, out)
 }

@@ -1,6 +1,6 @@
 use mathlib.Core.Path.{ap, ◌∙◌}
 use Rattle.sponge.specs.Transcript.{Call.finalize}
-use Rattle.hasher.specs.Model.{numbers, run_with, answer_of}
+use Rattle.hasher.specs.Model.{function_of, run_with, answer_of}
 use Rattle.hasher.specs.declared.Progress.{Progress}
 use Rattle.hasher.proofs.finalize.Goals as goal
 
@@ -9,4 +9,4 @@ pub returns : goal.returns
 returns c =
     let a = c.args in
     let n = c.finalize-moved in
-    c.answer_with.ensures ∙ n.ensures ∙ ap (λ (t : Progress). answer_of (numbers a.rate a.rounds a.limit) (run_with a.run.lanes t) (finalize (record { byte = a.last; status = a.refusal }))) c.progress_of.ensures
+    c.answer_with.ensures ∙ n.ensures ∙ ap (λ (t : Progress). answer_of (function_of a.numbers) (run_with a.run.lanes t) (finalize (record { byte = a.last; status = a.refusal }))) c.progress_of.ensures

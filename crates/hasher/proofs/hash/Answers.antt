@@ -1,27 +1,25 @@
-use mathlib.Core.Path.{◌≡◌, sym, ◌∙◌}
-use Rattle.sponge.specs.Model.{call_status}
-use Rattle.hasher.proofs.Guards.{numbers_fit}
+use mathlib.Core.Path.{ap, ◌∙◌}
+use lib.ListN.{length}
+use Rattle.hasher.specs.Model.{hash_status, hash_output}
+use Rattle.hasher.specs.declared.Numbers.{Numbers}
 use Rattle.hasher.proofs.OneGo.{at_refused, at_untouched, at_status, at_output}
 use Rattle.hasher.proofs.hash.Goals as goal
 
-pub returns-then-number-ne-DONE : goal.returns-then-number-ne-DONE
-returns-then-number-ne-DONE c =
+pub returns-in-Ok : goal.returns-in-Ok
+returns-in-Ok c =
     let a = c.args in
-    let n = c.call_status-number in record {
-      value = at_refused a.rate a.rounds a.limit a.message.now a.refusal a.last a.out.now n.result c.if-number-ne-DONE.true n.ensures;
-      out_after = at_untouched a.rate a.rounds a.limit a.message.now a.refusal a.last a.out.now n.result c.if-number-ne-DONE.true n.ensures;
+    let n = a.numbers in
+    let e = c.in-Ok.ensures.taken in record {
+      value = c.hash.ensures.value ∙ ap (λ (k : Numbers). hash_status k.limit (length a.message.now) a.refusal (length a.out.now)) e.0 ∙ at_status n.rate n.rounds n.limit a.message.now a.refusal a.last a.out.now e.1;
+      out_after = c.hash.ensures.out_after ∙ ap (λ (k : Numbers). hash_output k.rate k.rounds k.limit a.message.now a.refusal a.last a.out.now) e.0
+          ∙ at_output n.rate n.rounds n.limit a.message.now a.refusal a.last a.out.now e.1;
     }
 
-pub hash-requires : goal.hash-requires
-hash-requires c =
-    let was : (call_status c.args.rounds c.args.rate 0 ≡ 0) = (sym c.call_status-number.ensures ∙ c.if-number-ne-DONE.false) in
-    numbers_fit _ _ (was)
-
-pub returns : goal.returns
-returns c =
-    let was : (call_status c.args.rounds c.args.rate 0 ≡ 0) = (sym c.call_status-number.ensures ∙ c.if-number-ne-DONE.false) in
+pub returns-in-Err : goal.returns-in-Err
+returns-in-Err c =
     let a = c.args in
-    let h = c.hash in record {
-      value = h.ensures.value ∙ at_status a.rate a.rounds a.limit a.message.now a.refusal a.last a.out.now (was);
-      out_after = h.ensures.out_after ∙ at_output a.rate a.rounds a.limit a.message.now a.refusal a.last a.out.now (was);
+    let n = a.numbers in
+    let e = c.in-Err.ensures.refused in record {
+      value = at_refused n.rate n.rounds n.limit a.message.now a.refusal a.last a.out.now c.in-Err.number e.1 e.0;
+      out_after = at_untouched n.rate n.rounds n.limit a.message.now a.refusal a.last a.out.now c.in-Err.number e.1 e.0;
     }
