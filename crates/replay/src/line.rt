@@ -1,5 +1,6 @@
 // The lines that are written, one for each record.
 use crate::lent::Words;
+use hexadecimal::DigitsOf;
 use std::fmt;
 
 #[derive(Clone, Copy)]
@@ -20,23 +21,6 @@ pub enum Line<'a> {
     // With the output length.
     Kmac(hasher::Run, u64),
     Kt(kangarootwelve::Run),
-}
-
-#[derive(Clone, Copy)]
-struct Hexadecimal<'a>(&'a [u8]);
-
-impl fmt::Display for Hexadecimal<'_> {
-    // Eight bytes at a time, as one number: by single bytes it takes some four times as long.
-    fn fmt<W: fmt::Write>(&self, f: &mut fmt::Formatter<W>) -> fmt::Result {
-        for bytes in self.0.chunks(8) {
-            let number = bytes
-                .iter()
-                .fold(0, |number: u64, byte| number << 8 | *byte as u64);
-            let digits = 2 * bytes.len();
-            write!(f, "{number:0digits$x}")?;
-        }
-        Ok(())
-    }
 }
 
 // Lanes, with a space before each.
@@ -118,13 +102,9 @@ impl fmt::Display for Line<'_> {
             Line::Fresh => write!(f, "fresh"),
             Line::Set => write!(f, "set"),
             Line::Status(status) => write!(f, "{status}"),
-            Line::Output(status, out) => write!(f, "{status} {}", Hexadecimal(out)),
+            Line::Output(status, out) => write!(f, "{status} {}", DigitsOf(out)),
             Line::Lent(status, words) => write!(f, "{status} {words}"),
-            Line::LentOutput(status, out, words) => write!(
-                f,
-                "{status} {} {words}",
-                Hexadecimal(out)
-            ),
+            Line::LentOutput(status, out, words) => write!(f, "{status} {} {words}", DigitsOf(out)),
             Line::Verdict(status, true) => write!(f, "{status} yes"),
             Line::Verdict(status, false) => write!(f, "{status} no"),
             Line::Sponge(run) => write!(f, "{} {}", Totals(run), Place(run)),
