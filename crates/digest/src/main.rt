@@ -10,7 +10,7 @@ ghost use Rattle.turboshake.specs.Transcript.{output_limit};
 ghost use Rattle.digest.specs.Digest.{Absorbed, Absorbs, Digests, Written};
 
 use failure::{Failure, Reason};
-use kangarootwelve::Kt128;
+use kangarootwelve::{Kt, Kt128};
 use sponge::status::DONE;
 use std::env::FillError;
 use std::io;
