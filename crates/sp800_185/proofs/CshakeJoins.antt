@@ -15,7 +15,7 @@ use Rattle.sp800_185.specs.Model as model
 use Rattle.sp800_185.specs.Cshake as customizable
 use Rattle.sp800_185.specs.Cshake.{shake_at}
 use Rattle.sp800_185.specs.Claims.{Joins}
-use Rattle.sp800_185.specs.declared.Customized.{Customized}
+use Rattle.sp800_185.specs.Cshake.{Customized}
 
 -- ---- SHAKE's, with the status and the run apart
 

@@ -22,7 +22,7 @@ use Rattle.sp800_185.specs.Cshake as customizable
 use Rattle.sp800_185.specs.Cshake.{shake_at}
 use Rattle.sp800_185.specs.Claims.{ran, Callable, Reached, Claims}
 use Rattle.sp800_185.specs.Family.{CshakeStart, NamedStart, named_prefix, cshake_ran, CshakeReached}
-use Rattle.sp800_185.specs.declared.Customized.{Customized}
+use Rattle.sp800_185.specs.Cshake.{Customized}
 use Rattle.sp800_185.specs.declared.Keyed.{Keyed}
 use Rattle.sp800_185.proofs.Own.{run-history, named-history, shake-history}
 use Rattle.sp800_185.proofs.Instances.{cshake_meets}

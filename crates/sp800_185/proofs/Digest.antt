@@ -16,11 +16,11 @@ use Rattle.hasher.specs.Function.{long_output}
 use Rattle.hasher.specs.declared.Run.{Run}
 use Rattle.sp800_185.specs.Published.{right_encode, encode_string, bytepad, both_empty, cshake_prefix, cshake_byte, cshake_string, cshake, kmac_name, kmac_message, kmac, kmacxof}
 use Rattle.sp800_185.specs.Start.{string_limit, key_limit, kmac_prefix, start_run}
-use Rattle.sp800_185.specs.Function.{Function, whole_status, ending}
-use Rattle.sp800_185.specs.Model.{Usable, given, output_after}
+use Rattle.sp800_185.specs.Function.{Function, cshake_at, whole_status, ending}
+use Rattle.sp800_185.specs.Model.{says, fixes, given, plain, output_after}
 use Rattle.sp800_185.specs.Cshake as cshake
 use Rattle.sp800_185.specs.Kmac as kmac
-use Rattle.sp800_185.specs.declared.Numbers.{Numbers}
+use Rattle.sp800_185.specs.declared.numbers.Numbers.{Numbers}
 use Rattle.sp800_185.proofs.Prefixes.{absorbs, in_block, start_is}
 use Rattle.sp800_185.proofs.Statuses.{within}
 use Rattle.sp800_185.proofs.Starts.{cshake-fits, kmac-fits}
@@ -107,11 +107,9 @@ said_few true l h = h
 said_few false l h = zero-le
 
 -- what calls::digest asks
-pub asked : (f : Numbers) (rate : ℕ) (says fixes : Bool) (least most : ℕ) → f ≡ record { rate = rate; says = says; fixes = fixes; least = least; most = most }
-    → 0 < rate → rate ≤ 200 → 1 ≤ least → least ≤ 2 → most ≤ 4294967295 → (p : List ℕ) (r : Run) (l : ℕ) → r ≡ start_run rate p → l ≤ long_output
-    → Usable f × (r.position ≤ f.rate) × (l ≤ long_output)
-asked f rate says fixes least most e pos fits a b c p r l h few =
-    subst (λ (g : Numbers). Usable g × (r.position ≤ g.rate) × (l ≤ long_output)) (sym e) ((pos, fits, a, b, c), start_inside rate pos fits p r h, few)
+pub asked : (f : Numbers) (rate : ℕ) → f.rate ≡ rate → 0 < rate → rate ≤ 200 → (p : List ℕ) (r : Run) (l : ℕ) → r ≡ start_run rate p → l ≤ long_output
+    → (r.position ≤ f.rate) × (l ≤ long_output)
+asked f rate e pos fits p r l h few = (subst (λ (m : ℕ). r.position ≤ m) (sym e) (start_inside rate pos fits p r h), few)
 
 module _ (rate : ℕ) (n s x out : List ℕ) (k r : ℕ) (starts : k ≡ cshake.start_status (length n) (length s)) (is : r ≡ whole_status k (length x) (length out)) where
   pub cshake-status : r ≡ cshake.one_go_status (length n) (length s) (length x) (length out)
@@ -125,16 +123,15 @@ module _ (rate : ℕ) (n s x out : List ℕ) (k r : ℕ) (starts : k ≡ cshake.
   pub cshake-within : r ≡ 0 → (length n ≤ string_limit) × (length s ≤ string_limit)
   cshake-within e = cshake-fits (length n) (length s) (sym starts ∙ (within k (length x) (length out) (sym is ∙ e)).start)
 
-  pub cshake-written : 0 < rate → r ≡ 0 → both_empty n s ≡ false → (most : ℕ) (f : Numbers) (q : Run) (o : List ℕ)
-      → f ≡ record { rate = rate; says = false; fixes = false; least = 1; most = most }
+  pub cshake-written : 0 < rate → r ≡ 0 → both_empty n s ≡ false → (most : ℕ) (f : Function ℕ) (q : Run) (o : List ℕ)
+      → f ≡ plain (cshake_at rate most)
       → q ≡ start_run rate (bytepad (encode_string n ++ encode_string s) rate)
-      → o ≡ output_after (given f) (sponge_in q) x 0 (length out)
+      → o ≡ output_after f (sponge_in q) x 0 (length out)
       → o ≡ cshake.one_go_output rate x n s out
   unfolding cshake.one_go_output
   cshake-written pos e b most f q o ef eq eo =
-      let g : Numbers = record { rate = rate; says = false; fixes = false; least = 1; most = most } in
-      eo ∙ ap (λ (h : Numbers). output_after (given h) (sponge_in q) x 0 (length out)) ef
-      ∙ start-output (given g) pos (bytepad (encode_string n ++ encode_string s) rate) x q 0 (length out) eq
+      eo ∙ ap (λ (h : Function ℕ). output_after h (sponge_in q) x 0 (length out)) ef
+      ∙ start-output (plain (cshake_at rate most)) pos (bytepad (encode_string n ++ encode_string s) rate) x q 0 (length out) eq
       ∙ cshake-published rate x n s (length out) b
       ∙ lent_done _ (sym cshake-status ∙ e) _ out
 
@@ -153,18 +150,19 @@ module _ (rate : ℕ) (fixes : Bool) (k s x out : List ℕ) (j r : ℕ) (starts 
   pub kmac_few : r ≡ 0 → length out ≤ long_output
   kmac_few e = (within j (length x) (length out) (sym is ∙ e)).few
 
-  pub kmac-written : 0 < rate → r ≡ 0 → (most : ℕ) (f : Numbers) (l : ℕ) (q : Run) (o : List ℕ)
-      → f ≡ record { rate = rate; says = true; fixes = fixes; least = 2; most = most }
-      → l ≡ cond f.fixes (length out) 0
-      → q ≡ start_run rate (kmac_prefix rate k s)
+module _ (f : Numbers) (said : says f.closing ≡ true) (k s x out : List ℕ) (j r : ℕ) (starts : j ≡ kmac.start_status (length k) (length s)) (is : r ≡ whole_status j (length x) (length out)) where
+  pub kmac-written : r ≡ 0 → (l : ℕ) (q : Run) (o : List ℕ)
+      → l ≡ cond (fixes f.closing) (length out) 0
+      → q ≡ start_run f.rate (kmac_prefix f.rate k s)
       → o ≡ output_after (given f) (sponge_in q) x l (length out)
-      → o ≡ kmac.one_go_output rate fixes k x s out
+      → o ≡ kmac.one_go_output f.rate (fixes f.closing) k x s out
   unfolding kmac.one_go_output
-  kmac-written pos e most f l q o ef el eq eo =
-      let g : Numbers = record { rate = rate; says = true; fixes = fixes; least = 2; most = most } in
+  kmac-written e l q o el eq eo =
+      let n = length out in
+      let p = kmac_prefix f.rate k s in
       eo
-      ∙ ap (λ (m : ℕ). output_after (given f) (sponge_in q) x m (length out)) el
-      ∙ ap (λ (h : Numbers). output_after (given h) (sponge_in q) x (cond h.fixes (length out) 0) (length out)) ef
-      ∙ start-output (given g) pos (kmac_prefix rate k s) x q (cond fixes (length out) 0) (length out) eq
-      ∙ kmac-published rate k x s fixes (length out)
-      ∙ lent_done _ (sym kmac-status ∙ e) _ out
+      ∙ ap (λ (m : ℕ). output_after (given f) (sponge_in q) x m n) el
+      ∙ start-output (given f) f.usable.0 p x q (cond (fixes f.closing) n 0) n eq
+      ∙ ap (λ (b : Bool). sponge P f.rate (p ++ (x ++ cond b (right_encode (8 * cond (fixes f.closing) n 0)) [])) cshake_byte n) said
+      ∙ kmac-published f.rate k x s (fixes f.closing) n
+      ∙ lent_done _ (sym (kmac-status f.rate (fixes f.closing) k s x out j r starts is) ∙ e) _ out

@@ -28,7 +28,7 @@ use Rattle.sp800_185.specs.Claims.{told, ran, Reached, Claims}
 use Rattle.sp800_185.specs.Family.{NamedStart, KmacStart, named_prefix, keyed_prefix, cshake_ran, xof_ran, XofReached, CshakeOf, KmacOf, KmacxofOf, Family}
 use Rattle.sp800_185.specs.declared.Answer.{Answer}
 use Rattle.sp800_185.specs.declared.Keyed.{Keyed}
-use Rattle.sp800_185.specs.declared.CustomizedAnswer.{CustomizedAnswer}
+use Rattle.sp800_185.specs.Cshake.{CustomizedAnswer}
 use Rattle.sp800_185.proofs.Blocks.{cshake128_blocks_most, cshake256_blocks_most, kmac128_blocks_most, kmac256_blocks_most}
 use Rattle.sp800_185.proofs.Injective.{cshake-injective, kmac-injective, kmacxof-injective}
 use Rattle.sp800_185.proofs.Digest.{cshake_prefix_lem, cshake-published, kmac-published}

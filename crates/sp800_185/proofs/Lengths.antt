@@ -10,8 +10,10 @@ use Rattle.sponge.specs.Status.{done}
 use Rattle.sponge.proofs.Streaming.{cond-zero}
 use Rattle.hasher.specs.Function.{long_output}
 use Rattle.sp800_185.specs.Function.{Function, length_status, argument, keeps, limit}
-use Rattle.sp800_185.specs.Model.{given, Usable}
-use Rattle.sp800_185.specs.declared.Numbers.{Numbers}
+use Rattle.sp800_185.specs.Model.{says, fixes, given}
+use Rattle.sp800_185.specs.declared.numbers.Closing.{Closing}
+use Rattle.sp800_185.specs.declared.numbers.Closing.TheVariants.{Nothing, Zero, Length}
+use Rattle.sp800_185.specs.declared.numbers.Numbers.{Numbers}
 
 -- by whether the close fixes the length
 kept_by : (f : Bool) (l : ℕ) → cond f (leb 1 l && leb l long_output) (eqb l 0) ≡ true → cond f (cond f l long_output) 0 ≡ l
@@ -71,6 +73,11 @@ module _ {A : Type 0} (F : Function A) where
 
 -- ---- the functions that the code is given
 
+pub says_some : (k : Closing) → (k ≡ Nothing → ⊥) → says k ≡ true
+says_some Nothing h = absurd (h refl)
+says_some Zero h = refl
+says_some Length h = refl
+
 twice : (f : Bool) (l : ℕ) → cond f (cond f l 0) 0 ≡ cond f l 0
 twice true l = refl
 twice false l = refl
@@ -79,9 +86,9 @@ said_by : (f : Bool) (l : ℕ) → cond f (leb 1 l && leb l long_output) (eqb l 
 said_by true l e = refl
 said_by false l e = sym (eqb-true l 0 e)
 
-pub given_meets : (f : Numbers) → Usable f → Meets (given f)
-given_meets f u = record { positive = u.0; fits = u.1; some = λ l. l; some_said = said_by f.fixes; said_fixed = twice f.fixes }
+pub given_meets : (f : Numbers) → Meets (given f)
+given_meets f = record { positive = f.usable.0; fits = f.usable.1; some = λ l. l; some_said = said_by (fixes f.closing); said_fixed = twice (fixes f.closing) }
 
 -- a length that the close takes is short
-pub given_few : (f : Numbers) → Usable f → (l : ℕ) → argument (given f) l ≡ 0 → cond f.fixes l 0 ≤ long_output
-given_few f u l e = (kept_few (given f) (cond f.fixes l 0) (said_kept (given f) (given_meets f u) l e)).0
+pub given_few : (f : Numbers) (l : ℕ) → argument (given f) l ≡ 0 → cond (fixes f.closing) l 0 ≤ long_output
+given_few f l e = (kept_few (given f) (cond (fixes f.closing) l 0) (said_kept (given f) (given_meets f) l e)).0

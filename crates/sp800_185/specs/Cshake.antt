@@ -1,19 +1,28 @@
 -- cSHAKE over the rate and the most blocks before a message: a start, the calls after it, and in one go, on every input.
 -- Assumes nothing.
-use Rattle.std.specs.Prelude.{List, true, false, cond, ℕ, zero, suc, length, leb}
+use Rattle.std.specs.Prelude.{List, Bool, true, false, cond, ℕ, zero, suc, length, leb}
 use Rattle.sponge.specs.Status.{done, customization_too_long, first_of}
 use Rattle.sponge.specs.Transcript.{Call, Reply, lent}
 use Rattle.hasher.specs.Function.{Function, long_output}
 use Rattle.hasher.specs.Model as hasher
 use Rattle.hasher.specs.declared.Answer as declared
+use Rattle.hasher.specs.declared.Run.{Run}
 use Rattle.fips202.specs.Transcript.{function}
 use Rattle.sp800_185.specs.Published.{both_empty, cshake_prefix, shake_byte, cshake}
 use Rattle.sp800_185.specs.Start.{string_limit, start_run, no_run}
 use Rattle.sp800_185.specs.Function.{cshake_at, whole_status}
 use Rattle.sp800_185.specs.Model as model
 use Rattle.sp800_185.specs.declared.Answer.{Answer}
-use Rattle.sp800_185.specs.declared.Customized.{Customized}
-use Rattle.sp800_185.specs.declared.CustomizedAnswer.{CustomizedAnswer}
+
+-- a run of cSHAKE, and whether it is one of SHAKE: both strings of its start were empty
+pub record Customized : Type 0 where
+  pub run : Run
+  pub shake : Bool
+
+-- what a call answers: the status, and the run, which is the one given where the status is not 0
+pub record CustomizedAnswer : Type 0 where
+  pub customized : Customized
+  pub status : ℕ
 
 -- ---- a start with N and S
 

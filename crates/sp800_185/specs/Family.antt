@@ -19,7 +19,7 @@ use Rattle.sp800_185.specs.Cshake as customizable
 use Rattle.sp800_185.specs.Cshake.{shake_at}
 use Rattle.sp800_185.specs.Kmac as keyed
 use Rattle.sp800_185.specs.Claims.{Joins, told, ran, Callable, Claims}
-use Rattle.sp800_185.specs.declared.Customized.{Customized}
+use Rattle.sp800_185.specs.Cshake.{Customized}
 
 -- ---- the starts that are answered 0, of strings and keys that a caller can lend
 

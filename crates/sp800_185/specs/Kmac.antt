@@ -9,7 +9,7 @@ use Rattle.hasher.specs.declared.Answer as declared
 use Rattle.sp800_185.specs.Published.{kmac, kmacxof}
 use Rattle.sp800_185.specs.Start.{string_limit, key_limit, kmac_prefix, start_run, no_run}
 use Rattle.sp800_185.specs.Function.{Function, kmacxof_at, whole_status}
-use Rattle.sp800_185.specs.Model.{given, answer, written}
+use Rattle.sp800_185.specs.Model.{answer, written}
 use Rattle.sp800_185.specs.declared.Keyed.{Keyed}
 use Rattle.sp800_185.specs.declared.Answer.{Answer}
 
@@ -34,7 +34,7 @@ start_answer rate k s = started (start_status (length k) (length s)) (start_of r
 
 -- KMAC, whose close fixes the output length, or KMACXOF, as the code is given them
 abbrev pub saying : ℕ → ℕ → Bool → Function ℕ
-saying rate most fixes = given (record { rate = rate; says = true; fixes = fixes; least = 2; most = most })
+saying rate most fixes = record { rate = rate; says = true; fixes = fixes; least = 2; most = most; said = λ l. cond fixes l 0 }
 
 -- KMACXOF's runs keep no length
 

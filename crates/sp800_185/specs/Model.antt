@@ -1,6 +1,6 @@
 -- What each call on a run after a start does on every input, but for cSHAKE with both strings empty, which is SHAKE.
 -- Assumes nothing.
-use Rattle.std.specs.Prelude.{List, [], Bool, cond, ◌&&◌, ℕ, suc, ◌+◌, ◌≤◌, ◌<◌, length, eqb, leb}
+use Rattle.std.specs.Prelude.{List, [], Bool, true, false, cond, ◌&&◌, ℕ, suc, ◌+◌, length, eqb, leb}
 use Rattle.keccak.specs.Permutation.{last_rounds}
 use Rattle.sponge.specs.Waiting.{steps, position_after}
 use Rattle.sponge.specs.Published.{xor_byte}
@@ -17,7 +17,9 @@ use Rattle.sp800_185.specs.Start.{prefixed, start_run}
 use Rattle.sp800_185.specs.Function.{Function, ending, keeps, limit, rules}
 use Rattle.sp800_185.specs.declared.Keyed.{Keyed}
 use Rattle.sp800_185.specs.declared.Answer.{Answer}
-use Rattle.sp800_185.specs.declared.Numbers.{Numbers}
+use Rattle.sp800_185.specs.declared.numbers.Closing.{Closing}
+use Rattle.sp800_185.specs.declared.numbers.Closing.TheVariants.{Nothing, Zero, Length}
+use Rattle.sp800_185.specs.declared.numbers.Numbers.{Numbers}
 
 -- a sponge whose permutations are counted, and the output length that is kept: 0 before the close
 pub record State : Type 0 where
@@ -113,16 +115,22 @@ module _ {A : Type 0} (F : Function A) where
 
 -- ---- the functions that the code is given: numbers, and for the close an output length, which is looked at where it is fixed
 
-abbrev pub given : Numbers → Function ℕ
-given f = record { rate = f.rate; says = f.says; fixes = f.fixes; least = f.least; most = f.most; said = λ l. cond f.fixes l 0 }
+abbrev pub says : Closing → Bool
+says Nothing = false
+says Zero = true
+says Length = true
 
--- what the calls ask of the numbers
-abbrev pub Usable : Numbers → Type 0
-Usable f = (0 < f.rate) × (f.rate ≤ 200) × (1 ≤ f.least) × (f.least ≤ 2) × (f.most ≤ 4294967295)
+abbrev pub fixes : Closing → Bool
+fixes Nothing = false
+fixes Zero = false
+fixes Length = true
+
+abbrev pub given : Numbers → Function ℕ
+given f = record { rate = f.rate; says = says f.closing; fixes = fixes f.closing; least = f.least; most = f.most; said = λ l. cond (fixes f.closing) l 0 }
 
 module _ {A : Type 0} (F : Function A) where
   abbrev pub plain : Function ℕ
-  plain = given (record { rate = F.rate; says = F.says; fixes = F.fixes; least = F.least; most = F.most })
+  plain = record { rate = F.rate; says = F.says; fixes = F.fixes; least = F.least; most = F.most; said = λ l. cond F.fixes l 0 }
 
   -- a call's answer on a run of F, and what the lent output of a squeeze holds
   abbrev pub answer : Keyed → Call A → Answer

@@ -5,9 +5,10 @@ ghost use Rattle.sponge.specs.Model.{absorb_bytes};
 ghost use Rattle.sponge.specs.Transcript.{Call};
 ghost use Rattle.hasher.specs.Function.{long_output};
 ghost use Rattle.sp800_185.specs.Function.{length_status, argument, whole_status, ending};
-ghost use Rattle.sp800_185.specs.Model.{given, Usable, answer_of, written_of, output_after};
+ghost use Rattle.sp800_185.specs.Model.{fixes, given, answer_of, written_of, output_after};
 
-use crate::{Answer, CSHAKE_LAST, Keyed, Numbers, ROUNDS, counts, encode};
+use crate::numbers::{Closing, Numbers};
+use crate::{Answer, CSHAKE_LAST, Keyed, ROUNDS, counts, encode};
 use hasher::{LONG_OUTPUT, MESSAGE_LIMIT, Run};
 use sponge::status;
 
@@ -31,7 +32,6 @@ fn answered(run: Run, length: u64, number: u8) -> Answer
 }
 
 pub(crate) fn absorb(numbers: Numbers, keyed: Keyed, piece: &[u8]) -> Answer
-    requires { Usable numbers }
     ensures { result ≡ answer_of (given numbers) keyed (Call.absorb piece.now) }
 {
     if !counts::is_reachable(numbers, keyed) {
@@ -72,36 +72,35 @@ fn length_status(length: u64) -> u8
 fn close_status(numbers: Numbers, length: u64) -> u8
     ensures { result ≡ argument (given numbers) length }
 {
-    if !numbers.fixes {
-        return status::DONE;
+    match numbers.closing {
+        Closing::Length => length_status(length),
+        _ => status::DONE,
     }
-    length_status(length)
 }
 
 // The output length that a close says and the run then keeps.
 pub(crate) fn said(numbers: Numbers, length: u64) -> u64
-    ensures { result ≡ cond numbers.fixes length 0 }
+    ensures { result ≡ cond (fixes numbers.closing) length 0 }
 {
-    if numbers.fixes {
-        return length;
+    match numbers.closing {
+        Closing::Length => length,
+        _ => 0,
     }
-    0
 }
 
 // Absorbs what the close puts after the message.
 fn absorb_ending(lanes: &mut [u64; 25], position: usize, numbers: Numbers, kept: u64) -> usize
-    requires { Usable numbers × (position ≤ numbers.rate) × (kept ≤ long_output) }
+    requires { (position ≤ numbers.rate) × (kept ≤ long_output) }
     ensures result_after { record { value = lanes.new; position = result } ≡ absorb_bytes (last_rounds 24) numbers.rate (record { value = lanes.old; position = position }) (ending (given numbers) kept) }
     ensures upper_bound { result ≤ numbers.rate }
 {
-    if !numbers.says {
-        return position;
+    match numbers.closing {
+        Closing::Nothing => position,
+        _ => encode::absorb_right(lanes, position, numbers.rate, 8 * kept),
     }
-    encode::absorb_right(lanes, position, numbers.rate, 8 * kept)
 }
 
 pub(crate) fn finalize(numbers: Numbers, keyed: Keyed, length: u64) -> Answer
-    requires { Usable numbers }
     ensures { result ≡ answer_of (given numbers) keyed (Call.finalize length) }
 {
     if !counts::is_reachable(numbers, keyed) {
@@ -128,7 +127,6 @@ pub(crate) fn finalize(numbers: Numbers, keyed: Keyed, length: u64) -> Answer
 }
 
 pub(crate) fn squeeze(numbers: Numbers, keyed: Keyed, out: &mut [u8]) -> Answer
-    requires { Usable numbers }
     ensures value { result ≡ answer_of (given numbers) keyed (Call.squeeze (length out.old)) }
     ensures out_after { out.new ≡ written_of (given numbers) keyed out.old }
 {
@@ -170,7 +168,7 @@ pub(crate) fn one_go_status(start: u8, message: u64, asked: u64) -> u8
 
 // What a call in one go does after its start: the message, what the close puts after it, and as many bytes of output as `out` holds.
 pub(crate) fn digest(numbers: Numbers, start: Run, said: u64, message: &[u8], out: &mut [u8]) -> u8
-    requires { Usable numbers × (start.position ≤ numbers.rate) × (said ≤ long_output) }
+    requires { (start.position ≤ numbers.rate) × (said ≤ long_output) }
     ensures value { result ≡ 0 }
     ensures out_after { out.new ≡ output_after (given numbers) (record { value = start.lanes; position = start.position }) message.now said (length out.old) }
 {

@@ -4,9 +4,10 @@ ghost use Rattle.sponge.specs.Waiting.{position_after};
 ghost use Rattle.sponge.specs.Count.{open_count};
 ghost use Rattle.hasher.specs.Function.{message_limit, long_output};
 ghost use Rattle.sp800_185.specs.Function.{ending, keeps, limit};
-ghost use Rattle.sp800_185.specs.Model.{open_own, closed_own, blocks_fit, is_open, is_closed, reachable, given, Usable};
+ghost use Rattle.sp800_185.specs.Model.{open_own, closed_own, blocks_fit, is_open, is_closed, reachable, given};
 
-use crate::{Keyed, Numbers, encode};
+use crate::numbers::{Closing, Numbers};
+use crate::{Keyed, encode};
 use hasher::{LONG_OUTPUT, MESSAGE_LIMIT};
 
 pub(crate) const ABSORBING: u8 = 0;
@@ -37,7 +38,7 @@ fn open_count(rate: usize, n: u64) -> u64
 
 // The permutations of an open run whose prefix has one block.
 pub(crate) fn open_own(numbers: Numbers, absorbed: u64) -> u64
-    requires { Usable numbers × (absorbed ≤ message_limit) }
+    requires { absorbed ≤ message_limit }
     ensures { (result ≡ open_own (given numbers) absorbed) × (result ≤ 200 + absorbed) }
 {
     open_count(numbers.rate, numbers.rate as u64 + absorbed)
@@ -48,15 +49,15 @@ fn ending_length(numbers: Numbers, said: u64) -> u64
     requires { said ≤ long_output }
     ensures { (result ≡ length (ending (given numbers) said)) × (result ≤ 9) }
 {
-    if numbers.says {
-        return encode::right_length(8 * said);
+    match numbers.closing {
+        Closing::Nothing => 0,
+        _ => encode::right_length(8 * said),
     }
-    0
 }
 
 // The permutations of a closed run whose prefix has one block.
 pub(crate) fn closed_own(numbers: Numbers, said: u64, absorbed: u64, squeezed: u64) -> u64
-    requires { Usable numbers × (said ≤ long_output) × (absorbed ≤ message_limit) × (squeezed ≤ long_output) }
+    requires { (said ≤ long_output) × (absorbed ≤ message_limit) × (squeezed ≤ long_output) }
     ensures { (result ≡ closed_own (given numbers) said absorbed squeezed) × (result ≤ 210 + absorbed + squeezed) }
 {
     let n = numbers.rate as u64 + absorbed + ending_length(numbers, said);
@@ -65,7 +66,7 @@ pub(crate) fn closed_own(numbers: Numbers, said: u64, absorbed: u64, squeezed: u
 
 // Whether a prefix of some number of blocks gives this many permutations, of which `own` are those of one block.
 fn blocks_fit(numbers: Numbers, own: u64, permutations: u64) -> bool
-    requires { Usable numbers × (own ≤ 1099511627776) }
+    requires { own ≤ 1099511627776 }
     ensures { result ≡ blocks_fit (given numbers) numbers.least numbers.most own permutations }
 {
     if permutations < own + numbers.least - 1 {
@@ -78,27 +79,24 @@ fn blocks_fit(numbers: Numbers, own: u64, permutations: u64) -> bool
 fn keeps_length(numbers: Numbers, kept: u64) -> bool
     ensures { result ≡ keeps (given numbers) kept }
 {
-    if !numbers.fixes {
-        return kept == 0;
+    match numbers.closing {
+        Closing::Length => 0 < kept && kept <= LONG_OUTPUT as u64,
+        _ => kept == 0,
     }
-    if kept == 0 {
-        return false;
-    }
-    kept <= LONG_OUTPUT as u64
 }
 
 // The read limit of a closed run.
 pub(crate) fn read_limit(numbers: Numbers, kept: u64) -> u64
     ensures { result ≡ limit (given numbers) kept }
 {
-    if numbers.fixes {
-        return kept;
+    match numbers.closing {
+        Closing::Length => kept,
+        _ => LONG_OUTPUT as u64,
     }
-    LONG_OUTPUT as u64
 }
 
 fn is_open(numbers: Numbers, keyed: Keyed) -> bool
-    requires { Usable numbers × (keyed.run.absorbed ≤ message_limit) }
+    requires { keyed.run.absorbed ≤ message_limit }
     ensures { result ≡ is_open (given numbers) numbers.least numbers.most keyed.run.position keyed.length keyed.run.absorbed keyed.run.squeezed keyed.run.permutations }
 {
     let run = keyed.run;
@@ -115,7 +113,7 @@ fn is_open(numbers: Numbers, keyed: Keyed) -> bool
 }
 
 fn is_closed(numbers: Numbers, keyed: Keyed) -> bool
-    requires { Usable numbers × (keyed.run.absorbed ≤ message_limit) }
+    requires { keyed.run.absorbed ≤ message_limit }
     ensures { result ≡ is_closed (given numbers) numbers.least numbers.most keyed.run.position keyed.length keyed.run.absorbed keyed.run.squeezed keyed.run.permutations }
 {
     let run = keyed.run;
@@ -133,8 +131,8 @@ fn is_closed(numbers: Numbers, keyed: Keyed) -> bool
 }
 
 // Whether some start within the limits, and calls after it, reach a run with this phase, these totals, this position and these permutations.
+#[tactic(auto, unfolding(crate::specs::Model::reachable))]
 pub(crate) fn is_reachable(numbers: Numbers, keyed: Keyed) -> bool
-    requires { Usable numbers }
     ensures { result ≡ reachable (given numbers) numbers.least numbers.most keyed.run.position keyed.length keyed.run.phase keyed.run.absorbed keyed.run.squeezed keyed.run.permutations }
 {
     let phase = keyed.run.phase;

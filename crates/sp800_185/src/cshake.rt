@@ -1,44 +1,16 @@
-// cSHAKE over the rate and the most blocks before a message: a start, the calls after it, and in one go. With both strings empty it is SHAKE.
-ghost use Rattle.std.specs.Prelude.{◌≡◌, true, false, ◌<◌, ◌≤◌, length};
+// cSHAKE at both strengths: a start, the calls after it, and in one go. With both strings of its start empty it is SHAKE.
+ghost use Rattle.std.specs.Prelude.{◌≡◌, ℕ, Bool, true, false, ◌<◌, ◌≤◌, length};
 ghost use Rattle.sponge.specs.Transcript.{Call};
+ghost use Rattle.hasher.specs.Function.{long_output};
+ghost use Rattle.hasher.specs.declared.Run.{Run};
 ghost use Rattle.sp800_185.specs.Cshake.{start_status, start_answer, answer, written, one_go_status, one_go_output};
 ghost use Rattle.sp800_185.specs.Published.{both_empty};
+ghost use Rattle.std.proofs.Common.{rules};
 
-use crate::{
-    Answer, Customized, CustomizedAnswer, Keyed, Numbers, ROUNDS, SHAKE_LAST, STRING_LIMIT, calls,
-    no_run, prefix,
-};
-use hasher::{LONG_OUTPUT, Run};
+use crate::numbers::Numbers;
+use crate::{CShake128, CShake256, Keyed, ROUNDS, SHAKE_LAST, STRING_LIMIT, calls, no_run, prefix};
+use hasher::{HasherAnswer, LONG_OUTPUT, Run};
 use sponge::status;
-
-fn numbers_at(rate: usize, most: u64) -> Numbers
-    ensures { result ≡ record { rate = rate; says = false; fixes = false; least = 1; most = most } }
-{
-    Numbers {
-        rate,
-        says: false,
-        fixes: false,
-        least: 1,
-        most,
-    }
-}
-
-fn of_run(run: Run, shake: bool, number: u8) -> CustomizedAnswer
-    ensures { result ≡ record { customized = record { run = run; shake = shake }; status = number } }
-{
-    let customized = Customized { run, shake };
-    CustomizedAnswer {
-        customized,
-        status: number,
-    }
-}
-
-fn of_keyed(answered: Answer) -> CustomizedAnswer
-    ensures { result ≡ record { customized = record { run = answered.keyed.run; shake = false }; status = answered.status } }
-{
-    let keyed = answered.keyed;
-    of_run(keyed.run, false, answered.status)
-}
 
 fn both_empty(name: &[u8], string: &[u8]) -> bool
     ensures { result ≡ both_empty name.now string.now }
@@ -49,6 +21,7 @@ fn both_empty(name: &[u8], string: &[u8]) -> bool
     false
 }
 
+#[tactic(auto, unfolding(crate::specs::Cshake::start_status))]
 fn start_status(name: u64, string: u64) -> u8
     ensures { result ≡ start_status name string }
 {
@@ -61,92 +34,222 @@ fn start_status(name: u64, string: u64) -> u8
     status::DONE
 }
 
-pub(crate) fn start(rate: usize, name: &[u8], string: &[u8]) -> CustomizedAnswer
-    requires { (0 < rate) × (rate ≤ 200) }
-    ensures { result ≡ start_answer rate name.now string.now }
+// What SHAKE is to the hasher.
+fn shake_numbers(rate: usize) -> hasher::Numbers
+    ensures { result ≡ record { rate = rate; rounds = 24; limit = long_output } }
 {
-    let number = start_status(name.len() as u64, string.len() as u64);
-    if number != status::DONE {
-        return of_run(no_run(), false, number);
+    hasher::Numbers {
+        rate,
+        rounds: ROUNDS,
+        limit: LONG_OUTPUT,
     }
-    if both_empty(name, string) {
-        return of_run(hasher::fresh(), true, status::DONE);
-    }
-    of_run(
-        prefix::cshake_start(rate, name, string),
-        false,
-        status::DONE,
-    )
 }
 
-pub(crate) fn absorb(rate: usize, most: u64, x: Customized, piece: &[u8]) -> CustomizedAnswer
-    requires { (0 < rate) × (rate ≤ 200) × (most ≤ 4294967295) }
-    ensures { result ≡ answer rate most x (Call.absorb piece.now) }
-{
-    let run = x.run;
-    if x.shake {
-        let hashed = hasher::absorb(rate, ROUNDS, LONG_OUTPUT, run, piece);
-        return of_run(hashed.run, true, hashed.status);
+pub trait CShake: Copy {
+    ghost run_of: { Self → Run };
+
+    // Whether it is a run of SHAKE: both strings of its start were empty.
+    ghost shake_of: { Self → Bool };
+
+    // The rate and the capacity, in bytes.
+    ghost RATE: { ℕ };
+
+    const RATE: usize;
+
+    ghost CAPACITY: { ℕ };
+
+    const CAPACITY: usize;
+
+    // The most blocks before a message: those of a name and a string of the most bytes.
+    ghost PREFIX_BLOCKS: { ℕ };
+
+    const PREFIX_BLOCKS: u64;
+
+    fn run(self) -> Run
+        ensures { result ≡ run_of self };
+
+    fn shake(self) -> bool
+        ensures { result ≡ shake_of self };
+
+    fn from_run(run: Run, shake: bool) -> Self
+        ensures { (run_of result ≡ run) × (shake_of result ≡ shake) };
+
+    // A start with the function's name and the customization string, whole. A refused one hands back a run that every call refuses.
+    #[tactic(auto, unfolding(crate::specs::Cshake::start_answer, crate::specs::Published::cshake_prefix, crate::specs::Start::start_run, hasher::specs::Model::fresh_of))]
+    fn start(name: &[u8], string: &[u8]) -> HasherAnswer<Self>
+        ensures { record { customized = record { run = run_of result.hasher; shake = shake_of result.hasher }; status = result.status } ≡ start_answer RATE name.now string.now }
+    {
+        let number = start_status(name.len() as u64, string.len() as u64);
+        if number != status::DONE {
+            return HasherAnswer {
+                hasher: Self::from_run(no_run(), false),
+                status: number,
+            };
+        }
+        if both_empty(name, string) {
+            return HasherAnswer {
+                hasher: Self::from_run(hasher::fresh(), true),
+                status: status::DONE,
+            };
+        }
+        let run = prefix::cshake_start(Self::RATE, name, string);
+        HasherAnswer {
+            hasher: Self::from_run(run, false),
+            status: status::DONE,
+        }
     }
-    let keyed = Keyed { run, length: 0 };
-    of_keyed(calls::absorb(numbers_at(rate, most), keyed, piece))
+
+    // Absorbs a piece of the message.
+    #[tactic(auto, unfolding(crate::specs::Cshake::answer))]
+    fn absorb(self, piece: &[u8]) -> HasherAnswer<Self>
+        ensures { record { customized = record { run = run_of result.hasher; shake = shake_of result.hasher }; status = result.status } ≡ answer RATE PREFIX_BLOCKS (record { run = run_of self; shake = shake_of self }) (Call.absorb piece.now) }
+    {
+        let run = self.run();
+        if self.shake() {
+            let hashed = hasher::absorb(shake_numbers(Self::RATE), run, piece);
+            return HasherAnswer {
+                hasher: Self::from_run(hashed.run, true),
+                status: hashed.status,
+            };
+        }
+        let numbers = Numbers::cshake(Self::RATE, Self::PREFIX_BLOCKS);
+        let answered = calls::absorb(numbers, Keyed { run, length: 0 }, piece);
+        HasherAnswer {
+            hasher: Self::from_run(answered.keyed.run, false),
+            status: answered.status,
+        }
+    }
+
+    // Ends the message.
+    #[tactic(auto, unfolding(crate::specs::Cshake::answer))]
+    fn finalize(self) -> HasherAnswer<Self>
+        ensures { record { customized = record { run = run_of result.hasher; shake = shake_of result.hasher }; status = result.status } ≡ answer RATE PREFIX_BLOCKS (record { run = run_of self; shake = shake_of self }) (Call.finalize tt) }
+    {
+        let run = self.run();
+        if self.shake() {
+            let hashed = hasher::finalize(shake_numbers(Self::RATE), run, status::DONE, SHAKE_LAST);
+            return HasherAnswer {
+                hasher: Self::from_run(hashed.run, true),
+                status: hashed.status,
+            };
+        }
+        let numbers = Numbers::cshake(Self::RATE, Self::PREFIX_BLOCKS);
+        let answered = calls::finalize(numbers, Keyed { run, length: 0 }, 0);
+        HasherAnswer {
+            hasher: Self::from_run(answered.keyed.run, false),
+            status: answered.status,
+        }
+    }
+
+    // Squeezes as many bytes of output as `out` holds.
+    #[tactic(auto, unfolding(crate::specs::Cshake::answer, crate::specs::Cshake::written))]
+    fn squeeze(self, out: &mut [u8]) -> HasherAnswer<Self>
+        ensures status_value { record { customized = record { run = run_of result.hasher; shake = shake_of result.hasher }; status = result.status } ≡ answer RATE PREFIX_BLOCKS (record { run = run_of self; shake = shake_of self }) (Call.squeeze (length out.old)) }
+        ensures out_after { out.new ≡ written RATE PREFIX_BLOCKS (record { run = run_of self; shake = shake_of self }) out.old }
+    {
+        let run = self.run();
+        if self.shake() {
+            let hashed = hasher::squeeze(shake_numbers(Self::RATE), run, out);
+            return HasherAnswer {
+                hasher: Self::from_run(hashed.run, true),
+                status: hashed.status,
+            };
+        }
+        let numbers = Numbers::cshake(Self::RATE, Self::PREFIX_BLOCKS);
+        let answered = calls::squeeze(numbers, Keyed { run, length: 0 }, out);
+        HasherAnswer {
+            hasher: Self::from_run(answered.keyed.run, false),
+            status: answered.status,
+        }
+    }
+
+    // In one go: the message, the function's name, the customization string, and as many bytes of output as `out` holds.
+    fn hash(message: &[u8], name: &[u8], string: &[u8], out: &mut [u8]) -> u8
+        ensures value { result ≡ one_go_status (length name.now) (length string.now) (length message.now) (length out.old) }
+        ensures out_after { out.new ≡ one_go_output RATE message.now name.now string.now out.old }
+    {
+        let refusal = start_status(name.len() as u64, string.len() as u64);
+        let number = calls::one_go_status(refusal, message.len() as u64, out.len() as u64);
+        if number != status::DONE {
+            return number;
+        }
+        if both_empty(name, string) {
+            return hasher::hash(
+                shake_numbers(Self::RATE),
+                message,
+                status::DONE,
+                SHAKE_LAST,
+                out,
+            );
+        }
+        let numbers = Numbers::cshake(Self::RATE, Self::PREFIX_BLOCKS);
+        let run = prefix::cshake_start(Self::RATE, name, string);
+        calls::digest(numbers, run, 0, message, out)
+    }
+
+    ghost in_range: { (0 < RATE) × (RATE ≤ 200) × (PREFIX_BLOCKS ≤ 4294967295) };
 }
 
-pub(crate) fn finalize(rate: usize, most: u64, x: Customized) -> CustomizedAnswer
-    requires { (0 < rate) × (rate ≤ 200) × (most ≤ 4294967295) }
-    ensures { result ≡ answer rate most x (Call.finalize tt) }
-{
-    let run = x.run;
-    if x.shake {
-        let hashed = hasher::finalize(rate, ROUNDS, LONG_OUTPUT, run, status::DONE, SHAKE_LAST);
-        return of_run(hashed.run, true, hashed.status);
+impl CShake for CShake128 {
+    ghost run_of = { λ x. x.run };
+
+    ghost shake_of = { λ x. x.shake };
+
+    ghost RATE = { 168 };
+
+    const RATE: usize = 168;
+
+    ghost CAPACITY = { 32 };
+
+    const CAPACITY: usize = 32;
+
+    ghost PREFIX_BLOCKS = { 199729 };
+
+    const PREFIX_BLOCKS: u64 = 199729;
+
+    fn run(self) -> Run {
+        self.run
     }
-    let keyed = Keyed { run, length: 0 };
-    of_keyed(calls::finalize(numbers_at(rate, most), keyed, 0))
+
+    fn shake(self) -> bool {
+        self.shake
+    }
+
+    fn from_run(run: Run, shake: bool) -> Self {
+        CShake128 { run, shake }
+    }
+
+    ghost in_range = { Prim.search rules };
 }
 
-pub(crate) fn squeeze(rate: usize, most: u64, x: Customized, out: &mut [u8]) -> CustomizedAnswer
-    requires { (0 < rate) × (rate ≤ 200) × (most ≤ 4294967295) }
-    ensures value { result ≡ answer rate most x (Call.squeeze (length out.old)) }
-    ensures out_after { out.new ≡ written rate most x out.old }
-{
-    let run = x.run;
-    if x.shake {
-        let hashed = hasher::squeeze(rate, ROUNDS, LONG_OUTPUT, run, out);
-        return of_run(hashed.run, true, hashed.status);
-    }
-    let keyed = Keyed { run, length: 0 };
-    of_keyed(calls::squeeze(numbers_at(rate, most), keyed, out))
-}
+impl CShake for CShake256 {
+    ghost run_of = { λ x. x.run };
 
-pub(crate) fn hash(
-    rate: usize,
-    most: u64,
-    message: &[u8],
-    name: &[u8],
-    string: &[u8],
-    out: &mut [u8],
-) -> u8
-    requires { (0 < rate) × (rate ≤ 200) × (most ≤ 4294967295) }
-    ensures value { result ≡ one_go_status (length name.now) (length string.now) (length message.now) (length out.old) }
-    ensures out_after { out.new ≡ one_go_output rate message.now name.now string.now out.old }
-{
-    let refusal = start_status(name.len() as u64, string.len() as u64);
-    let number = calls::one_go_status(refusal, message.len() as u64, out.len() as u64);
-    if number != status::DONE {
-        return number;
+    ghost shake_of = { λ x. x.shake };
+
+    ghost RATE = { 136 };
+
+    const RATE: usize = 136;
+
+    ghost CAPACITY = { 64 };
+
+    const CAPACITY: usize = 64;
+
+    ghost PREFIX_BLOCKS = { 246724 };
+
+    const PREFIX_BLOCKS: u64 = 246724;
+
+    fn run(self) -> Run {
+        self.run
     }
-    if both_empty(name, string) {
-        return hasher::hash(
-            rate,
-            ROUNDS,
-            LONG_OUTPUT,
-            message,
-            status::DONE,
-            SHAKE_LAST,
-            out,
-        );
+
+    fn shake(self) -> bool {
+        self.shake
     }
-    let run = prefix::cshake_start(rate, name, string);
-    calls::digest(numbers_at(rate, most), run, 0, message, out)
+
+    fn from_run(run: Run, shake: bool) -> Self {
+        CShake256 { run, shake }
+    }
+
+    ghost in_range = { Prim.search rules };
 }

@@ -1,6 +1,6 @@
-// The keyed family of SP 800-185, for strings of whole bytes, in one go and in pieces: a type for each function, whose calls stand in `strength128` and
-// `strength256`. What they share stands in `cshake`, `kmac` and `kmacxof`, over the rate; `calls` and `counts` are the calls on a run after a start, `prefix` and
-// `encode` what a start and a close absorb.
+// The keyed family of SP 800-185, for strings of whole bytes, in one go and in pieces: a type for each function, whose calls are those of the traits
+// `CShake`, `Kmac` and `KmacXof`, over the rate. `calls` and `counts` are the calls on a run after a start, over `numbers`, what the functions differ in;
+// `prefix` and `encode` are what a start and a close absorb.
 #![tactic(auto)]
 
 mod calls;
@@ -9,14 +9,16 @@ mod cshake;
 mod encode;
 mod kmac;
 mod kmacxof;
+mod numbers;
 mod prefix;
-mod strength128;
-mod strength256;
 
 ghost use Rattle.std.specs.Prelude.{◌≡◌};
 ghost use Rattle.sp800_185.specs.Start.{no_run};
 
+pub use cshake::CShake;
 use hasher::Run;
+pub use kmac::Kmac;
+pub use kmacxof::KmacXof;
 
 // The most bytes of a function's name and of a customization string. A key has as many as a message at most.
 pub const STRING_LIMIT: u64 = 16777215;
@@ -27,17 +29,6 @@ const ROUNDS: usize = 24;
 const SHAKE_LAST: u8 = 0x1F;
 
 const CSHAKE_LAST: u8 = 0x04;
-
-// What the functions differ in: the rate, whether the close says an output length after the message, whether it fixes that length, and the fewest and
-// the most blocks before a message.
-#[derive(Clone, Copy)]
-struct Numbers {
-    rate: usize,
-    says: bool,
-    fixes: bool,
-    least: u64,
-    most: u64,
-}
 
 // A run, and the output length that it keeps: 0 before the close, and where none is fixed.
 #[derive(Clone, Copy)]
@@ -50,19 +41,6 @@ struct Keyed {
 #[derive(Clone, Copy)]
 struct Answer {
     keyed: Keyed,
-    status: u8,
-}
-
-// A run of cSHAKE, and whether it is one of SHAKE: both strings of its start were empty.
-#[derive(Clone, Copy)]
-struct Customized {
-    run: Run,
-    shake: bool,
-}
-
-#[derive(Clone, Copy)]
-struct CustomizedAnswer {
-    customized: Customized,
     status: u8,
 }
 
@@ -88,23 +66,11 @@ pub struct CShake128 {
     pub shake: bool,
 }
 
-#[derive(Clone, Copy)]
-pub struct CShake128Answer {
-    pub hasher: CShake128,
-    pub status: u8,
-}
-
 // A run of cSHAKE256, and whether it is one of SHAKE256.
 #[derive(Clone, Copy)]
 pub struct CShake256 {
     pub run: Run,
     pub shake: bool,
-}
-
-#[derive(Clone, Copy)]
-pub struct CShake256Answer {
-    pub hasher: CShake256,
-    pub status: u8,
 }
 
 // A run of KMAC128, and its output length in bytes: 0 before the close, which fixes it.
@@ -114,23 +80,11 @@ pub struct Kmac128 {
     pub output_length: u64,
 }
 
-#[derive(Clone, Copy)]
-pub struct Kmac128Answer {
-    pub hasher: Kmac128,
-    pub status: u8,
-}
-
 // A run of KMAC256, and its output length in bytes: 0 before the close, which fixes it.
 #[derive(Clone, Copy)]
 pub struct Kmac256 {
     pub run: Run,
     pub output_length: u64,
-}
-
-#[derive(Clone, Copy)]
-pub struct Kmac256Answer {
-    pub hasher: Kmac256,
-    pub status: u8,
 }
 
 // A run of KMACXOF128.
@@ -139,20 +93,8 @@ pub struct KmacXof128 {
     pub run: Run,
 }
 
-#[derive(Clone, Copy)]
-pub struct KmacXof128Answer {
-    pub hasher: KmacXof128,
-    pub status: u8,
-}
-
 // A run of KMACXOF256.
 #[derive(Clone, Copy)]
 pub struct KmacXof256 {
     pub run: Run,
-}
-
-#[derive(Clone, Copy)]
-pub struct KmacXof256Answer {
-    pub hasher: KmacXof256,
-    pub status: u8,
 }

@@ -1,11 +1,10 @@
 use mathlib.Core.Path.{refl, sym, ◌∙◌}
-use mathlib.Core.Bool.{true}
 use Prim.Native.Nat.{◌+◌, ◌-◌}
 use native.Mathlib.Omega.{arith}
 use Rattle.sponge.specs.Transcript.{Call.absorb}
 use Rattle.sponge.proofs.Valid.{fits-valid}
 use Rattle.sp800_185.specs.Model.{given}
-use Rattle.sp800_185.proofs.Cases.{Test, opened, open_place, status_5, absorb_3, absorb_2, absorb_0, answer-refused, absorb-answer}
+use Rattle.sp800_185.proofs.Cases.{opened, open_place, status_5, absorb_3, absorb_2, absorb_0, answer-refused, absorb-answer}
 use Rattle.sp800_185.proofs.calls.absorb.Goals as goal
 
 pub returns-then-not-is_reachable : goal.returns-then-not-is_reachable
@@ -16,50 +15,50 @@ returns-then-not-is_reachable c =
 
 pub returns-then-run-ne-ABSORBING : goal.returns-then-run-ne-ABSORBING
 returns-then-run-ne-ABSORBING c =
-    let was : (Test (given c.args.numbers) c.args.keyed true) = (sym c.is_reachable.ensures ∙ c.if-not-is_reachable.false) in
+    let was = sym c.is_reachable.ensures ∙ c.if-not-is_reachable.false in
     let a = c.args in
-    let e = absorb_3 (given a.numbers) a.keyed (was) a.piece.now c.if-run-ne-ABSORBING.true in
+    let e = absorb_3 (given a.numbers) a.keyed was a.piece.now c.if-run-ne-ABSORBING.true in
     c.refused-then-run-ne-ABSORBING.ensures ∙ answer-refused (given a.numbers) a.keyed (absorb a.piece.now) 2 e
 
 pub overflow_add-total : goal.overflow_add-total
 overflow_add-total c =
-    let was : (Test (given c.args.numbers) c.args.keyed true) = (sym c.is_reachable.ensures ∙ c.if-not-is_reachable.false) in
+    let was = sym c.is_reachable.ensures ∙ c.if-not-is_reachable.false in
     let a = c.args in
-    omega (arith, (opened (given a.numbers) a.keyed (was) c.if-run-ne-ABSORBING.false).absorbed-fits)
+    omega (arith, (opened (given a.numbers) a.keyed was c.if-run-ne-ABSORBING.false).absorbed-fits)
 
 pub returns-then-total-gt-MESSAGE_LIMIT : goal.returns-then-total-gt-MESSAGE_LIMIT
 returns-then-total-gt-MESSAGE_LIMIT c =
-    let was : (Test (given c.args.numbers) c.args.keyed true) = (sym c.is_reachable.ensures ∙ c.if-not-is_reachable.false) in
+    let was = sym c.is_reachable.ensures ∙ c.if-not-is_reachable.false in
     let a = c.args in
-    let e = absorb_2 (given a.numbers) a.keyed (was) a.piece.now c.if-run-ne-ABSORBING.false (omega (arith, c.if-total-gt-MESSAGE_LIMIT.true)) in
+    let e = absorb_2 (given a.numbers) a.keyed was a.piece.now c.if-run-ne-ABSORBING.false (omega (arith, c.if-total-gt-MESSAGE_LIMIT.true)) in
     c.refused-then-total-gt-MESSAGE_LIMIT.ensures ∙ answer-refused (given a.numbers) a.keyed (absorb a.piece.now) 1 e
 
 pub open_own-requires : goal.open_own-requires
 open_own-requires c =
-    let was : (Test (given c.args.numbers) c.args.keyed true) = (sym c.is_reachable.ensures ∙ c.if-not-is_reachable.false) in
-    let a = c.args in (c.requires, (opened (given a.numbers) a.keyed (was) c.if-run-ne-ABSORBING.false).absorbed-fits)
+    let was = sym c.is_reachable.ensures ∙ c.if-not-is_reachable.false in
+    let a = c.args in ((opened (given a.numbers) a.keyed was c.if-run-ne-ABSORBING.false).absorbed-fits)
 
 pub overflow_sub-before : goal.overflow_sub-before
 overflow_sub-before c =
-    let was : (Test (given c.args.numbers) c.args.keyed true) = (sym c.is_reachable.ensures ∙ c.if-not-is_reachable.false) in
+    let was = sym c.is_reachable.ensures ∙ c.if-not-is_reachable.false in
     let a = c.args in
-    omega (arith, (opened (given a.numbers) a.keyed (was) c.if-run-ne-ABSORBING.false).own-fits, c.open_own.ensures.0, c.requires.2)
+    omega (arith, (opened (given a.numbers) a.keyed was c.if-run-ne-ABSORBING.false).own-fits, c.open_own.ensures.0, a.numbers.usable.2)
 
 pub open_own-requires-2 : goal.open_own-requires-2
-open_own-requires-2 c = (c.requires, omega (arith, c.if-total-gt-MESSAGE_LIMIT.false))
+open_own-requires-2 c = omega (arith, c.if-total-gt-MESSAGE_LIMIT.false)
 
 pub overflow_add-count : goal.overflow_add-count
 overflow_add-count c =
-    let was : (Test (given c.args.numbers) c.args.keyed true) = (sym c.is_reachable.ensures ∙ c.if-not-is_reachable.false) in
+    let was = sym c.is_reachable.ensures ∙ c.if-not-is_reachable.false in
     let a = c.args in
-    let o = opened (given a.numbers) a.keyed (was) c.if-run-ne-ABSORBING.false in
-    omega (arith, o.few, o.absorbed-fits, c.open_own.ensures.0, c.open_own.ensures.1, c.open_own-2.ensures.1, c.if-total-gt-MESSAGE_LIMIT.false, c.requires.4)
+    let o = opened (given a.numbers) a.keyed was c.if-run-ne-ABSORBING.false in
+    omega (arith, o.few, o.absorbed-fits, c.open_own.ensures.0, c.open_own.ensures.1, c.open_own-2.ensures.1, c.if-total-gt-MESSAGE_LIMIT.false, a.numbers.usable.4)
 
 pub returns : goal.returns
 returns c =
-    let was : (Test (given c.args.numbers) c.args.keyed true) = (sym c.is_reachable.ensures ∙ c.if-not-is_reachable.false) in
+    let was = sym c.is_reachable.ensures ∙ c.if-not-is_reachable.false in
     let a = c.args in
-    let s = c.requires in
+    let s = a.numbers.usable in
     let past = was in
     let phase = c.if-run-ne-ABSORBING.false in
     let d = c.absorb-taken in

@@ -9,7 +9,7 @@ absorb_ending-position-requires c =
     let x = c.absorb-taken in
     let a = c.args in
     let o : Outcome = record { status = x.result.status; state = record { value = x.new.lanes; position = x.result.position } } in
-    (c.requires.0, (absorbed a.numbers.rate c.requires.0.0 c.requires.0.1 (sponge_in a.start) a.message.now o c.requires.1 x.ensures).1, c.requires.2)
+    ((absorbed a.numbers.rate a.numbers.usable.0 a.numbers.usable.1 (sponge_in a.start) a.message.now o c.requires.0 x.ensures).1, c.requires.1)
 
 pub returns : goal.returns
 returns c =
@@ -22,7 +22,7 @@ returns c =
     let t : Sponge = record { value = w.new.lanes; position = w.result } in
     let p : Outcome = record { status = y.result.status; state = record { value = y.new.lanes; position = y.result.position } } in
     let q : Outcome = record { status = z.result.status; state = record { value = z.new.lanes; position = z.result.position } } in
-    let h = c.requires in record {
-      value = row_done (given a.numbers) h.0.0 h.0.1 (sponge_in a.start) a.message.now a.out.now a.said o p q t z.new.out h.1 x.ensures w.ensures.result_after w.ensures.upper_bound y.ensures z.ensures.position_after z.ensures.out_after;
-      out_after = row_written (given a.numbers) h.0.0 h.0.1 (sponge_in a.start) a.message.now a.out.now a.said o p q t z.new.out h.1 x.ensures w.ensures.result_after w.ensures.upper_bound y.ensures z.ensures.position_after z.ensures.out_after;
+    let u = a.numbers.usable in record {
+      value = row_done (given a.numbers) u.0 u.1 (sponge_in a.start) a.message.now a.out.now a.said o p q t z.new.out c.requires.0 x.ensures w.ensures.result_after w.ensures.upper_bound y.ensures z.ensures.position_after z.ensures.out_after;
+      out_after = row_written (given a.numbers) u.0 u.1 (sponge_in a.start) a.message.now a.out.now a.said o p q t z.new.out c.requires.0 x.ensures w.ensures.result_after w.ensures.upper_bound y.ensures z.ensures.position_after z.ensures.out_after;
     }

@@ -1,10 +1,9 @@
-use mathlib.Core.Path.{sym, ◌∙◌, subst}
-use mathlib.Core.Bool.{true}
+use mathlib.Core.Path.{refl, sym, ◌∙◌, subst}
 use Prim.Native.Nat.{ℕ, ◌≤◌}
-use native.Mathlib.Omega.{arith}
 use lib.ListN.{length}
 use Rattle.hasher.specs.Function.{long_output}
 use Rattle.sp800_185.specs.Start.{kmac_prefix}
+use Rattle.sp800_185.specs.Model.{fixes}
 use Rattle.sp800_185.proofs.Digest.{said_few, asked, kmac-status, kmac_untouched, kmac-within, kmac_few, kmac-written}
 use Rattle.sp800_185.proofs.kmac.tag.Goals as goal
 
@@ -12,9 +11,10 @@ pub returns-then-number-ne-DONE : goal.returns-then-number-ne-DONE
 returns-then-number-ne-DONE c =
     let w = c.one_go_status-number in
     let t = c.start_status-refusal in
-    let a = c.args in record {
-      value = kmac-status a.rate a.fixes a.key.now a.string.now a.message.now a.out.now t.result w.result t.ensures w.ensures;
-      out_after = kmac_untouched a.rate a.fixes a.key.now a.string.now a.message.now a.out.now t.result w.result t.ensures w.ensures c.if-number-ne-DONE.true;
+    let a = c.args in
+    let f = a.numbers in record {
+      value = kmac-status f.rate (fixes f.closing) a.key.now a.string.now a.message.now a.out.now t.result w.result t.ensures w.ensures;
+      out_after = kmac_untouched f.rate (fixes f.closing) a.key.now a.string.now a.message.now a.out.now t.result w.result t.ensures w.ensures c.if-number-ne-DONE.true;
     }
 
 pub kmac_start-run-requires : goal.kmac_start-run-requires
@@ -22,33 +22,33 @@ kmac_start-run-requires c =
     let w = c.one_go_status-number in
     let t = c.start_status-refusal in
     let a = c.args in
-    let h = kmac-within a.rate a.fixes a.key.now a.string.now a.message.now a.out.now t.result w.result t.ensures w.ensures c.if-number-ne-DONE.false in
-    (c.requires.0, c.requires.1, h.0, h.1)
+    let f = a.numbers in
+    let h = kmac-within f.rate (fixes f.closing) a.key.now a.string.now a.message.now a.out.now t.result w.result t.ensures w.ensures c.if-number-ne-DONE.false in
+    (f.usable.0, f.usable.1, h.0, h.1)
 
 pub digest-requires : goal.digest-requires
 digest-requires c =
     let s = c.kmac_start-run in
     let l = c.said-said in
-    let f = c.numbers_at-numbers in
     let w = c.one_go_status-number in
     let t = c.start_status-refusal in
     let a = c.args in
-    let most = kmac_few a.rate a.fixes a.key.now a.string.now a.message.now a.out.now t.result w.result t.ensures w.ensures c.if-number-ne-DONE.false in
-    let few : l.result ≤ long_output = subst (λ (n : ℕ). n ≤ long_output) (sym l.ensures) (said_few f.result.fixes (length a.out.now) most) in
-    asked f.result a.rate true a.fixes 2 a.most f.ensures c.requires.0 c.requires.1 (omega arith) (omega arith) c.requires.2
-    (kmac_prefix a.rate a.key.now a.string.now) s.result l.result s.ensures few
+    let f = a.numbers in
+    let most = kmac_few f.rate (fixes f.closing) a.key.now a.string.now a.message.now a.out.now t.result w.result t.ensures w.ensures c.if-number-ne-DONE.false in
+    let few : l.result ≤ long_output = subst (λ (n : ℕ). n ≤ long_output) (sym l.ensures) (said_few (fixes f.closing) (length a.out.now) most) in
+    asked f f.rate refl f.usable.0 f.usable.1 (kmac_prefix f.rate a.key.now a.string.now) s.result l.result s.ensures few
 
 pub returns : goal.returns
 returns c =
     let d = c.digest in
     let s = c.kmac_start-run in
     let l = c.said-said in
-    let f = c.numbers_at-numbers in
     let w = c.one_go_status-number in
     let t = c.start_status-refusal in
-    let a = c.args in record {
+    let a = c.args in
+    let f = a.numbers in record {
       value = d.ensures.value ∙ sym c.if-number-ne-DONE.false
-          ∙ kmac-status a.rate a.fixes a.key.now a.string.now a.message.now a.out.now t.result w.result t.ensures w.ensures;
-      out_after = kmac-written a.rate a.fixes a.key.now a.string.now a.message.now a.out.now t.result w.result t.ensures w.ensures
-          c.requires.0 c.if-number-ne-DONE.false a.most f.result l.result s.result d.new.out f.ensures l.ensures s.ensures d.ensures.out_after;
+          ∙ kmac-status f.rate (fixes f.closing) a.key.now a.string.now a.message.now a.out.now t.result w.result t.ensures w.ensures;
+      out_after = kmac-written f c.requires a.key.now a.string.now a.message.now a.out.now t.result w.result t.ensures w.ensures
+          c.if-number-ne-DONE.false l.result s.result d.new.out l.ensures s.ensures d.ensures.out_after;
     }

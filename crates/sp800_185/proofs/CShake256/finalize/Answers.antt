@@ -1,4 +1,0 @@
-use Rattle.sp800_185.proofs.CShake256.finalize.Goals as goal
-
-pub returns : goal.returns
-returns c = c.finalize-answered.ensures

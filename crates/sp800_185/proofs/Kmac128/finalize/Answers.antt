@@ -1,4 +1,0 @@
-use Rattle.sp800_185.proofs.Kmac128.finalize.Goals as goal
-
-pub returns : goal.returns
-returns c = c.finalize-answered.ensures

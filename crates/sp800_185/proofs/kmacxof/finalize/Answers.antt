@@ -1,6 +1,0 @@
-use mathlib.Core.Path.{ap, ◌∙◌}
-use Rattle.sp800_185.specs.Kmac.{without_length}
-use Rattle.sp800_185.proofs.kmacxof.finalize.Goals as goal
-
-pub returns : goal.returns
-returns c = c.without_length.ensures ∙ ap without_length c.finalize.ensures
