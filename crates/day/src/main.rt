@@ -11,7 +11,7 @@ ghost use Rattle.sponge.specs.Status.{done};
 ghost use Rattle.journal.specs.Published.{framed, digest};
 
 use journal::{Answer, Journal};
-use kangarootwelve::Kt128;
+use kangarootwelve::{Kt, Kt128};
 use sponge::status::DONE;
 use std::fmt::{Display, Formatter};
 use std::{array, fmt, io};
@@ -79,9 +79,7 @@ fn put_event(day: &mut [u8], at: usize, event: &[u8]) -> usize
 {
     let end = put(day, at, event);
     let encoding = kangarootwelve::length_encode(event.len() as u64);
-    let bytes = encoding.bytes;
-    let start = encoding.start;
-    put(day, end, &bytes[start..9])
+    put(day, end, encoding.as_slice())
 }
 
 // The clerk's part: the day's message put together in `day`, which has room for nine bytes of encoding after each event, and one call. Answers as the

@@ -6,7 +6,7 @@ use Rattle.sponge.specs.Status.{done, input_too_long}
 use Rattle.sponge.specs.Transcript.{Call.absorb}
 use Rattle.turboshake.specs.Transcript.{message_limit}
 use Rattle.kangarootwelve.specs.Published.{kt128}
-use Rattle.kangarootwelve.specs.Model.{fresh_of, answer_of, answer128}
+use Rattle.kangarootwelve.specs.Model.{fresh_of, answer_of}
 use Rattle.kangarootwelve.specs.declared.Run.{Run}
 use Rattle.kangarootwelve.specs.declared.Kt128.{Kt128}
 use Rattle.digest.specs.declared.failure.Failure.{Failure}
@@ -24,8 +24,8 @@ pub record Absorbed (r : Run) : Type 0 where
 
 -- what an absorb of p answers: 0, and a message left the run that is handed back; or 2, which alone is said to be too long
 abbrev pub Absorbs : Kt128 → List ℕ → Result Kt128 Failure → Type 0
-Absorbs h p (Ok a) = (answer128 h (absorb p) ≡ record { hasher = a; status = done }) × Absorbed a.run
-Absorbs h p (Err e) = ((answer128 h (absorb p)).status ≡ input_too_long) × (e ≡ TooLong)
+Absorbs h p (Ok a) = (answer_of 168 32 h.run (absorb p) ≡ record { status = done; run = a.run }) × Absorbed a.run
+Absorbs h p (Err e) = ((answer_of 168 32 h.run (absorb p)).status ≡ input_too_long) × (e ≡ TooLong)
 
 -- the status and the output of n bytes once the run is finalized with an empty customization string and squeezed: those of the
 -- message that left it

@@ -10,7 +10,7 @@ ghost use Rattle.turboshake.specs.Transcript.{output_limit};
 ghost use Rattle.digest.specs.Digest.{Absorbed, Absorbs, Digests, Written};
 
 use failure::{Failure, Reason};
-use kangarootwelve::Kt128;
+use kangarootwelve::{Kt, Kt128};
 use sponge::status::DONE;
 use std::env::FillError;
 use std::io;
@@ -48,6 +48,7 @@ fn absorb_input(input: &mut impl Read, buffer: &mut [u8]) -> Result<Kt128, Failu
 }
 
 // Ends the message, and squeezes as many bytes as `out` holds.
+// Kept: a status, which `Digests` proves to be 0 for every message; a Result would have a branch that cannot be.
 fn finish(hasher: Kt128, out: &mut [u8]) -> u8
     requires { length out.old ≤ output_limit }
     ensures { Digests hasher.run (length out.old) result out.new }

@@ -4,4 +4,4 @@ use Rattle.digest.proofs.Pieces.{fresh_absorbed}
 use Rattle.digest.proofs.absorb_input.Goals as goal
 
 pub loop-init : goal.loop-init
-loop-init g c = fresh_absorbed c.fresh-hasher.result c.fresh-hasher.ensures
+loop-init g c = fresh_absorbed c.fresh-hasher.result.run c.fresh-hasher.ensures
