@@ -8,6 +8,8 @@ ghost use Rattle.abreast.specs.Four.{state_at};
 ghost use Rattle.abreast.specs.Inside.{One, Each};
 ghost use Rattle.abreast.specs.Planes.{effect, turned, moved, mixed, placed};
 
+// Kept: the steps, beside those of `keccak`. These take a slice and a state's number, and invert nothing; those hold one parity inverted.
+
 // Five words by their x before pi: theta's D, or plane y, whose lane k stands at x = k + 2 y.
 #[derive(Clone, Copy)]
 struct Plane(u64, u64, u64, u64, u64);

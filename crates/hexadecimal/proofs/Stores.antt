@@ -2,12 +2,12 @@
 -- Assumes nothing.
 use mathlib.Core.Path.{◌≡◌, refl}
 use mathlib.Core.List.{List, [], ◌∷◌}
-use Prim.Native.Nat.{ℕ, suc, ◌+◌, ◌*◌, ◌/◌, ◌%◌, ◌≤◌, ◌<◌}
+use Prim.Native.Nat.{ℕ, ◌+◌, ◌*◌, ◌≤◌, ◌<◌}
 use native.Mathlib.Omega.{arith}
-use lib.ListN.{length, drop, get_or, set, drop_of_length-le}
-use lib.Seq.{sets, sets-eq, drop-cons}
+use lib.ListN.{length, drop, drop_of_length-le}
+use lib.Seq.{sets, sets-eq}
 use borrow.Author.Tests.{le-leb, lt-leb}
-use Rattle.hexadecimal.specs.Hex.{digit, hex_of, with_hex}
+use Rattle.hexadecimal.specs.Hex.{hex_of, with_hex}
 
 length_hex : (bytes : List ℕ) → length (hex_of bytes) ≡ 2 * length bytes
 length_hex [] = refl
@@ -16,15 +16,6 @@ length_hex (b ∷ bs) = let n : length (hex_of bs) ≡ 2 * length bs = length_he
 -- the text once the bytes from the i-th on are put too
 abbrev pub rest : List ℕ → ℕ → List ℕ → ℕ → List ℕ
 rest text at bytes i = sets text (at + 2 * i) (hex_of (drop i bytes))
-
--- a turn puts one byte
-pub turn : (text : List ℕ) (at : ℕ) (bytes : List ℕ) (i : ℕ) → i < length bytes
-    → rest (set (set text (at + 2 * i) (digit (get_or bytes i 0 / 16))) (at + 2 * i + 1) (digit (get_or bytes i 0 % 16))) at bytes (i + 1) ≡ rest text at bytes i
-turn text at bytes i h =
-    let p : at + 2 * i + 1 ≡ suc (at + 2 * i) = omega arith in
-    let q : at + 2 * (i + 1) ≡ suc (suc (at + 2 * i)) = omega arith in
-    let j : i + 1 ≡ suc i = omega arith in
-    rw (p, q, j, drop-cons bytes i 0 h)
 
 -- after the last turn nothing is left to put
 pub put-end : (text : List ℕ) (at : ℕ) (bytes : List ℕ) (i : ℕ) → length bytes ≤ i → rest text at bytes i ≡ text

@@ -9,6 +9,9 @@ ghost use Rattle.keccak.specs.Round as spec;
 
 use crate::{OFFSETS, rotate_left};
 
+// Kept: the steps, beside those of `abreast`. These hold one parity inverted and take an array; those take a slice and a state's number, and invert
+// nothing: they differ in what they compute.
+
 // Five words by their x before pi: theta's D, or plane y, whose lane k stands at x = k + 2 y.
 #[derive(Clone, Copy)]
 struct Plane(u64, u64, u64, u64, u64);

@@ -46,6 +46,7 @@ pub(crate) fn word_at(s: &[u8], i: usize) -> u64
 }
 
 // The same of all bytes from index i on, fewer than four: a case for each count costs less than a loop.
+// Kept: std has no call for a part of a word.
 fn word_from(s: &[u8], i: usize) -> u64
     requires { (i ≤ length s.now) × (length s.now < i + 4) }
     ensures { (result ≡ word (drop i s.now)) × (result < 2 ^ 24) }
@@ -92,6 +93,7 @@ pub(crate) fn xor_bytes(lanes: &mut [u64; 25], at: usize, s: &[u8])
 }
 
 // Bytes XORed into the state from the start of lane `first` on: whole lanes, and what is left.
+// Kept: beside `four::xor_words`, as `read_words` is. This goes from any lane to a ragged end, that over four states: a text for both is no plainer.
 fn xor_words(lanes: &mut [u64; 25], first: usize, s: &[u8])
     requires { 8 * first + length s.now ≤ 200 }
     ensures { lanes.new ≡ puts xor_byte lanes.old (8 * first) s.now }

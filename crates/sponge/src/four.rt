@@ -67,6 +67,7 @@ fn xor_lanes(states: &mut [u64], q: usize, strings: &[u8], at: usize, each: usiz
 }
 
 // XORs whole words of each string into the start of its state: the loop goes over the lanes, so that its cost is shared by four.
+// Kept: beside `block::xor_words`, as `read_words` is (see there).
 fn xor_words(states: &mut [u64], strings: &[u8], from: usize, count: usize)
     requires { (length states.old ≡ 100) × (count ≤ 200) × (count % 8 ≡ 0) × (from + count ≤ length strings.now / 4) }
     ensures { Each (λ k l. puts xor_byte l 0 (take count (drop from (string_at k strings.now)))) states.old states.new }

@@ -54,6 +54,8 @@ fn refused(number: u8, position: usize) -> Answer
 }
 
 // Permutes a full block, and answers the position of the next byte.
+// Kept: the bounds of rate and position, here and below. The public calls take the numbers apart (docs/API.md), and the position changes at each
+// block: a type that holds the fact would be made anew at each step.
 fn next_position(lanes: &mut [u64; 25], position: usize, rate: usize, rounds: usize) -> usize
     requires { (position ≤ rate) × (0 < rate) }
     ensures upper_bound { result < rate }
@@ -125,6 +127,7 @@ fn squeeze_blocks(
 {
     let mut p = position;
     let mut i = 0;
+    // Kept: the index. Where `split_at_mut` cuts off what is left at each turn, the proof knows the length of `out` at the end, and no byte.
     while i < out.len() {
         let at = next_position(lanes, p, rate, rounds);
         let k = (rate - at).min(out.len() - i);
