@@ -114,10 +114,8 @@ fn count_after(strength: Strength, at: Progress, from: Place, more: usize) -> u6
     requires { (open_due strength.rate strength.chaining at ≡ true) × (from ≡ place_of at) × (at.absorbed + at.customized + more ≤ message_limit + customization_limit) }
     ensures { result ≡ open_kt strength.rate strength.chaining (at.absorbed + at.customized + more) }
 {
-    if more <= strength.rate - position_in_hand(from) {
-        if more <= tree::CHUNK - from.position {
-            return at.permutations;
-        }
+    if more <= strength.rate - position_in_hand(from) && more <= tree::CHUNK - from.position {
+        return at.permutations;
     }
     totals::open_kt(strength, at.absorbed + at.customized + more as u64)
 }

@@ -1,7 +1,6 @@
-use mathlib.Core.Path.{◌≡◌, sym, ap, ◌∙◌}
+use mathlib.Core.Path.{◌≡◌, ap, ◌∙◌}
 use mathlib.Core.List.{List, [], ◌++◌}
 use Prim.Native.Nat.{ℕ, ◌≤◌}
-use native.Mathlib.Nat.{le_of_eq}
 use native.Mathlib.Omega.{arith}
 use lib.ListN.{length}
 use Rattle.sponge.specs.Status.{first_of}
@@ -12,7 +11,6 @@ use Rattle.journal.specs.Published.{framed}
 use Rattle.journal.specs.Transcript.{event_limit}
 use Rattle.journal.specs.Inside.{as_day}
 use Rattle.journal.proofs.Cases.{short_answer, long_answer}
-use borrow.Author.Rules.{rules}
 use Rattle.journal.proofs.Journal.append.Goals as goal
 
 pub returns-then-event-gt-EVENT_LIMIT : goal.returns-then-event-gt-EVENT_LIMIT
