@@ -32,6 +32,7 @@ pub struct Numbers {
 
 // A run: document 01's fixed-size state with its place, phase (0 absorbing, 1 squeezing), bytes fed and bytes read, and request Q-10's permutations
 // of the definition so far.
+// Kept: the phase is a number, since a run is taken from anywhere, and one whose phase is neither 0 nor 1 is refused with 5.
 #[derive(Clone, Copy)]
 pub struct Run {
     pub lanes: [u64; 25],
@@ -43,6 +44,7 @@ pub struct Run {
 }
 
 // What a run holds beside its lanes.
+// Kept: its fields stand in a run too, where callers and theorems name them.
 #[derive(Clone, Copy)]
 pub struct Progress {
     pub position: usize,
@@ -53,6 +55,7 @@ pub struct Progress {
 }
 
 // What a call on lent lanes answers: the status, and what the run then holds beside them, which is what was given where the status is not 0.
+// Kept: calls refuse by number, and a refusal hands the run back as it was.
 #[derive(Clone, Copy)]
 pub struct Moved {
     pub at: Progress,
@@ -82,6 +85,7 @@ pub fn fresh() -> Run
 }
 
 // What the run holds beside its lanes.
+// Kept: callers name these two conversions.
 pub fn progress_of(run: Run) -> Progress
     ensures { result ≡ progress_of run }
 {
@@ -128,6 +132,7 @@ pub fn absorb(numbers: Numbers, run: Run, piece: &[u8]) -> Answer
 }
 
 // Ends the message with the byte `last`, whose own status is `refusal`.
+// Kept: the two stay apart, as callers give them: the one is what they close with, the other their own test of it.
 pub fn finalize(numbers: Numbers, run: Run, refusal: u8, last: u8) -> Answer
     ensures { result ≡ answer_of (function_of numbers) run (Call.finalize (record { byte = last; status = refusal })) }
 {

@@ -1,12 +1,12 @@
 // The two functions: what they share beside what all functions of the sponge do, over the rate in which they differ.
-ghost use Rattle.std.specs.Prelude.{◌≡◌, refl, ℕ, length};
+ghost use Rattle.std.specs.Prelude.{◌≡◌, ℕ, length};
 ghost use Rattle.sponge.specs.Transcript.{Call};
 ghost use Rattle.hasher.specs.Model.{answer, run_with, answered, one_go_status, one_go_output};
 ghost use Rattle.turboshake.specs.Transcript.{output_limit, function};
 ghost use Rattle.turboshake.specs.Published.{turboshake_rounds};
 
-use crate::{ROUNDS, TurboShake128, TurboShake256, domain_status, hash_at_rate};
-use hasher::{Hasher, HasherAnswer, LONG_OUTPUT, Moved, Progress, Run, in_place};
+use crate::{domain_status, hash_at_rate};
+use hasher::{Hasher, HasherAnswer, Moved, Progress, in_place};
 
 pub trait TurboShake: Hasher {
     // The capacity, in bytes.
@@ -45,76 +45,4 @@ pub trait TurboShake: Hasher {
 
     // The rounds are the draft's, and the output has no limit of its own: a type of TurboSHAKE's runs picks the rate alone.
     ghost rounds_and_limit: { (Self.ROUNDS ≡ turboshake_rounds) × (Self.LIMIT ≡ output_limit) };
-}
-
-impl Hasher for TurboShake128 {
-    ghost run_of = { λ hasher. hasher.run };
-
-    ghost RATE = { 168 };
-
-    const RATE: usize = 168;
-
-    ghost ROUNDS = { turboshake_rounds };
-
-    const ROUNDS: usize = ROUNDS;
-
-    ghost LIMIT = { output_limit };
-
-    const LIMIT: u32 = LONG_OUTPUT;
-
-    fn run(self) -> Run {
-        self.run
-    }
-
-    fn from_run(run: Run) -> Self {
-        TurboShake128 { run }
-    }
-}
-
-impl Hasher for TurboShake256 {
-    ghost run_of = { λ hasher. hasher.run };
-
-    ghost RATE = { 136 };
-
-    const RATE: usize = 136;
-
-    ghost ROUNDS = { turboshake_rounds };
-
-    const ROUNDS: usize = ROUNDS;
-
-    ghost LIMIT = { output_limit };
-
-    const LIMIT: u32 = LONG_OUTPUT;
-
-    fn run(self) -> Run {
-        self.run
-    }
-
-    fn from_run(run: Run) -> Self {
-        TurboShake256 { run }
-    }
-}
-
-impl TurboShake for TurboShake128 {
-    ghost CAPACITY = { 32 };
-
-    const CAPACITY: usize = 32;
-
-    ghost CHAINING = { 32 };
-
-    const CHAINING: usize = 32;
-
-    ghost rounds_and_limit = { (refl, refl) };
-}
-
-impl TurboShake for TurboShake256 {
-    ghost CAPACITY = { 64 };
-
-    const CAPACITY: usize = 64;
-
-    ghost CHAINING = { 64 };
-
-    const CHAINING: usize = 64;
-
-    ghost rounds_and_limit = { (refl, refl) };
 }

@@ -3,6 +3,8 @@
 #![tactic(auto)]
 
 mod function;
+mod strength128;
+mod strength256;
 
 ghost use Rattle.std.specs.Prelude.{◌≡◌, length};
 ghost use Rattle.hasher.specs.Model.{one_go_status, one_go_output};
