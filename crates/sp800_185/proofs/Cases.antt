@@ -20,13 +20,14 @@ use Rattle.sponge.proofs.Valid.{absorb_done, pad_done, squeeze_done}
 use Rattle.sponge.proofs.Valid.{output_done as valid-output}
 use Rattle.sponge.proofs.Joining.{perform_done, perform-refused}
 use Rattle.sponge.proofs.Answers as answers
-use Rattle.hasher.specs.Function.{message_limit}
+use Rattle.hasher.specs.Function.{message_limit, long_output}
 use Rattle.hasher.proofs.Cases.{position-le}
 use Rattle.sp800_185.specs.Published.{cshake_byte}
 use Rattle.sp800_185.specs.Function.{Function, argument, ending, keeps, limit, rules}
 use Rattle.sp800_185.specs.Model.{open_own, closed_own, reachable, machine, seen, held, answer_of, written_of}
 use Rattle.sp800_185.specs.declared.Keyed.{Keyed}
 use Rattle.sp800_185.specs.declared.Answer.{Answer}
+use Rattle.sp800_185.proofs.Lengths.{kept_few}
 use Rattle.sp800_185.proofs.Told.{Told, absorb-told, pad-told, after-told}
 use Rattle.sp800_185.proofs.Laws.{both}
 
@@ -90,6 +91,14 @@ module _ {A : Type 0} (F : Function A) (x : Keyed) where
 
   pub closed_place : 0 < F.rate → Test true → x.run.phase ≡ 1 → x.run.position ≤ F.rate
   closed_place pos t e = subst (λ (m : ℕ). m ≤ F.rate) (sym (closed t e).place_is) (position-le F.rate x.run.squeezed pos)
+
+  -- where the read limit z leaves n bytes more
+  pub reads : Test true → x.run.phase ≡ 1 → (z n : ℕ) → z ≡ limit F x.length → n ≤ z - x.run.squeezed
+      → (x.run.squeezed + n ≤ limit F x.length) × (x.length ≤ long_output) × (limit F x.length ≤ long_output)
+  reads t e z n is h =
+      let g = closed t e in
+      let f = kept_few F x.length g.kept in
+      (omega (arith, h, is, g.squeezed-fits), f.0, f.1)
 
   -- ---- the status of each call
 

@@ -18,9 +18,7 @@ pub mod CshakeJoins
 pub mod Family
 mod Encoding
 mod Prefixes
-mod Tests
 mod Cases
-pub mod Bit
 mod Statuses
 mod Starts
 mod Digest

@@ -1,40 +1,22 @@
 -- The statuses of a start and of a call in one go by their cases, and what is within the limits where the status is 0.
 -- Assumes nothing.
-use mathlib.Core.Path.{◌≡◌, sym}
+use mathlib.Core.Path.{◌≡◌}
 use mathlib.Core.Bool.{cond}
-use Prim.Native.Nat.{ℕ, suc, ◌≤◌, ◌<◌}
+use Prim.Native.Nat.{ℕ, suc, ◌≤◌}
 use lib.Dec.{leb}
-use borrow.Author.Tests.{eq-eqb, ne_eqb, le-leb, lt-leb, leb-true}
+use borrow.Author.Tests.{le-leb, leb-true}
 use Rattle.sponge.specs.Status.{done, input_too_long, first_of}
-use Rattle.sponge.proofs.FirstStatus.{first_refused, first_zero}
+use Rattle.sponge.proofs.FirstStatus.{first_zero}
 use Rattle.sponge.proofs.Streaming.{cond-zero}
 use Rattle.hasher.specs.Function.{message_limit, long_output}
 use Rattle.sp800_185.specs.Function.{length_status, whole_status}
 use Rattle.sp800_185.proofs.Lengths as lengths
-
--- ---- an output length
-
-module _ (l : ℕ) where
-  pub length_7 : l ≡ 0 → 7 ≡ length_status l
-  length_7 e = rw (eq-eqb l 0 e)
-
-  pub length_6 : (l ≡ 0 → ⊥) → long_output < l → 6 ≡ length_status l
-  length_6 e h = rw (ne_eqb l 0 e, lt-leb l long_output h)
-
-  pub length_0 : (l ≡ 0 → ⊥) → l ≤ long_output → 0 ≡ length_status l
-  length_0 e h = rw (ne_eqb l 0 e, le-leb l long_output h)
 
 -- ---- a start: strings of a and b bytes, with the limits x and y, and suc p and suc q past them
 
 module _ (a x p b y q : ℕ) where
   abbrev both : ℕ
   both = first_of (cond (leb a x) done (suc p)) (cond (leb b y) done (suc q))
-
-  pub first_over : x < a → suc p ≡ both
-  first_over h = rw (lt-leb a x h)
-
-  pub second_over : a ≤ x → y < b → suc q ≡ both
-  second_over h g = rw (le-leb a x h, lt-leb b y g)
 
   pub both_fit : a ≤ x → b ≤ y → 0 ≡ both
   both_fit h g = rw (le-leb a x h, le-leb b y g)
@@ -47,15 +29,6 @@ module _ (a x p b y q : ℕ) where
 -- ---- in one go
 
 module _ (s m l : ℕ) where
-  pub whole_2 : message_limit < m → 2 ≡ whole_status s m l
-  whole_2 h = rw (lt-leb m message_limit h)
-
-  pub whole-start : m ≤ message_limit → (s ≡ 0 → ⊥) → s ≡ whole_status s m l
-  whole-start h g = rw (le-leb m message_limit h) (sym (first_refused s (length_status l) g))
-
-  pub whole_length : m ≤ message_limit → s ≡ 0 → length_status l ≡ whole_status s m l
-  whole_length h e = rw (le-leb m message_limit h, e)
-
   -- within the limits where all is done
   pub record Within : Type 0 where
     pub message : m ≤ message_limit

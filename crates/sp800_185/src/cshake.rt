@@ -1,6 +1,7 @@
 // cSHAKE at both strengths: a start, the calls after it, and in one go. With both strings of its start empty it is SHAKE.
 ghost use Rattle.std.specs.Prelude.{◌≡◌, ℕ, Bool, true, false, ◌<◌, ◌≤◌, length};
 ghost use Rattle.sponge.specs.Transcript.{Call};
+ghost use Rattle.hasher.specs.Function.{long_output};
 ghost use Rattle.hasher.specs.declared.Run.{Run};
 ghost use Rattle.sp800_185.specs.Cshake.{start_status, start_answer, answer, written, one_go_status, one_go_output};
 ghost use Rattle.sp800_185.specs.Published.{both_empty};
@@ -33,15 +34,29 @@ fn start_status(name: u64, string: u64) -> u8
     status::DONE
 }
 
+// What SHAKE is to the hasher.
+fn shake_numbers(rate: usize) -> hasher::Numbers
+    ensures { result ≡ record { rate = rate; rounds = 24; limit = long_output } }
+{
+    hasher::Numbers {
+        rate,
+        rounds: ROUNDS,
+        limit: LONG_OUTPUT,
+    }
+}
+
 pub trait CShake: Copy {
     ghost run_of: { Self → Run };
 
     // Whether it is a run of SHAKE: both strings of its start were empty.
     ghost shake_of: { Self → Bool };
 
+    // The rate and the capacity, in bytes.
     ghost RATE: { ℕ };
 
     const RATE: usize;
+
+    ghost CAPACITY: { ℕ };
 
     const CAPACITY: usize;
 
@@ -91,7 +106,7 @@ pub trait CShake: Copy {
     {
         let run = self.run();
         if self.shake() {
-            let hashed = hasher::absorb(Self::RATE, ROUNDS, LONG_OUTPUT, run, piece);
+            let hashed = hasher::absorb(shake_numbers(Self::RATE), run, piece);
             return HasherAnswer {
                 hasher: Self::from_run(hashed.run, true),
                 status: hashed.status,
@@ -112,14 +127,7 @@ pub trait CShake: Copy {
     {
         let run = self.run();
         if self.shake() {
-            let hashed = hasher::finalize(
-                Self::RATE,
-                ROUNDS,
-                LONG_OUTPUT,
-                run,
-                status::DONE,
-                SHAKE_LAST,
-            );
+            let hashed = hasher::finalize(shake_numbers(Self::RATE), run, status::DONE, SHAKE_LAST);
             return HasherAnswer {
                 hasher: Self::from_run(hashed.run, true),
                 status: hashed.status,
@@ -141,7 +149,7 @@ pub trait CShake: Copy {
     {
         let run = self.run();
         if self.shake() {
-            let hashed = hasher::squeeze(Self::RATE, ROUNDS, LONG_OUTPUT, run, out);
+            let hashed = hasher::squeeze(shake_numbers(Self::RATE), run, out);
             return HasherAnswer {
                 hasher: Self::from_run(hashed.run, true),
                 status: hashed.status,
@@ -167,9 +175,7 @@ pub trait CShake: Copy {
         }
         if both_empty(name, string) {
             return hasher::hash(
-                Self::RATE,
-                ROUNDS,
-                LONG_OUTPUT,
+                shake_numbers(Self::RATE),
                 message,
                 status::DONE,
                 SHAKE_LAST,
@@ -192,6 +198,8 @@ impl CShake for CShake128 {
     ghost RATE = { 168 };
 
     const RATE: usize = 168;
+
+    ghost CAPACITY = { 32 };
 
     const CAPACITY: usize = 32;
 
@@ -222,6 +230,8 @@ impl CShake for CShake256 {
     ghost RATE = { 136 };
 
     const RATE: usize = 136;
+
+    ghost CAPACITY = { 64 };
 
     const CAPACITY: usize = 64;
 

@@ -71,9 +71,12 @@ pub trait Kmac: Copy {
     // 0 before the close, which fixes it.
     ghost output_length_of: { Self → ℕ };
 
+    // The rate and the capacity, in bytes.
     ghost RATE: { ℕ };
 
     const RATE: usize;
+
+    ghost CAPACITY: { ℕ };
 
     const CAPACITY: usize;
 
@@ -177,6 +180,8 @@ impl Kmac for Kmac128 {
 
     const RATE: usize = 168;
 
+    ghost CAPACITY = { 32 };
+
     const CAPACITY: usize = 32;
 
     ghost PREFIX_BLOCKS = { 102360992 };
@@ -206,6 +211,8 @@ impl Kmac for Kmac256 {
     ghost RATE = { 136 };
 
     const RATE: usize = 136;
+
+    ghost CAPACITY = { 64 };
 
     const CAPACITY: usize = 64;
 

@@ -12,9 +12,12 @@ use hasher::{HasherAnswer, Run};
 pub trait KmacXof: Copy {
     ghost run_of: { Self → Run };
 
+    // The rate and the capacity, in bytes.
     ghost RATE: { ℕ };
 
     const RATE: usize;
+
+    ghost CAPACITY: { ℕ };
 
     const CAPACITY: usize;
 
@@ -113,6 +116,8 @@ impl KmacXof for KmacXof128 {
 
     const RATE: usize = 168;
 
+    ghost CAPACITY = { 32 };
+
     const CAPACITY: usize = 32;
 
     ghost PREFIX_BLOCKS = { 102360992 };
@@ -136,6 +141,8 @@ impl KmacXof for KmacXof256 {
     ghost RATE = { 136 };
 
     const RATE: usize = 136;
+
+    ghost CAPACITY = { 64 };
 
     const CAPACITY: usize = 64;
 

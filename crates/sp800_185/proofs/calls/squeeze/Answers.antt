@@ -4,11 +4,8 @@ use native.Mathlib.Omega.{arith}
 use lib.ListN.{length}
 use Rattle.sponge.specs.Transcript.{Call.squeeze}
 use Rattle.sponge.proofs.Valid.{fits-valid}
-use Rattle.hasher.specs.Function.{long_output}
-use Rattle.sp800_185.specs.Function.{limit}
 use Rattle.sp800_185.specs.Model.{given}
-use Rattle.sp800_185.proofs.Lengths.{kept_few}
-use Rattle.sp800_185.proofs.Cases.{closed, closed_place, status_5, squeeze_3, squeeze_6, squeeze_0, answer-refused, output-refused, squeeze-answer, squeeze-written}
+use Rattle.sp800_185.proofs.Cases.{closed, closed_place, reads, status_5, squeeze_3, squeeze_6, squeeze_0, answer-refused, output-refused, squeeze-answer, squeeze-written}
 use Rattle.sp800_185.proofs.calls.squeeze.Goals as goal
 
 pub returns-then-not-is_reachable : goal.returns-then-not-is_reachable
@@ -47,21 +44,14 @@ returns-then-read_limit-run c =
 pub overflow_add-total : goal.overflow_add-total
 overflow_add-total c =
     let was = sym c.is_reachable.ensures ∙ c.if-not-is_reachable.false in
-    let total : ((c.args.keyed.run.squeezed + length c.args.out.now ≤ limit (given c.args.numbers) c.args.keyed.length) × (c.args.keyed.length ≤ long_output) × (limit (given c.args.numbers) c.args.keyed.length ≤ long_output)) = (let a = c.args in
-    let g = closed (given a.numbers) a.keyed was c.if-run-ne-SQUEEZING.false in
-    let f = kept_few (given a.numbers) a.keyed.length g.kept in
-    (omega (arith, c.if-read_limit-run.false, c.read_limit.ensures, g.squeezed-fits), f.0, f.1)) in
-    let t = total in omega (arith, t.0, t.2)
+    let a = c.args in
+    let t = reads (given a.numbers) a.keyed was c.if-run-ne-SQUEEZING.false c.read_limit.result (length a.out.now) c.read_limit.ensures c.if-read_limit-run.false in omega (arith, t.0, t.2)
 
 pub closed_own-requires : goal.closed_own-requires
 closed_own-requires c =
     let was = sym c.is_reachable.ensures ∙ c.if-not-is_reachable.false in
-    let total : ((c.args.keyed.run.squeezed + length c.args.out.now ≤ limit (given c.args.numbers) c.args.keyed.length) × (c.args.keyed.length ≤ long_output) × (limit (given c.args.numbers) c.args.keyed.length ≤ long_output)) = (let a = c.args in
-    let g = closed (given a.numbers) a.keyed was c.if-run-ne-SQUEEZING.false in
-    let f = kept_few (given a.numbers) a.keyed.length g.kept in
-    (omega (arith, c.if-read_limit-run.false, c.read_limit.ensures, g.squeezed-fits), f.0, f.1)) in
     let a = c.args in
-    let t = total in
+    let t = reads (given a.numbers) a.keyed was c.if-run-ne-SQUEEZING.false c.read_limit.result (length a.out.now) c.read_limit.ensures c.if-read_limit-run.false in
     (t.1, (closed (given a.numbers) a.keyed was c.if-run-ne-SQUEEZING.false).absorbed-fits, omega (arith, t.0, t.2))
 
 pub overflow_sub-before : goal.overflow_sub-before
@@ -73,40 +63,28 @@ overflow_sub-before c =
 pub closed_own-requires-2 : goal.closed_own-requires-2
 closed_own-requires-2 c =
     let was = sym c.is_reachable.ensures ∙ c.if-not-is_reachable.false in
-    let total : ((c.args.keyed.run.squeezed + length c.args.out.now ≤ limit (given c.args.numbers) c.args.keyed.length) × (c.args.keyed.length ≤ long_output) × (limit (given c.args.numbers) c.args.keyed.length ≤ long_output)) = (let a = c.args in
-    let g = closed (given a.numbers) a.keyed was c.if-run-ne-SQUEEZING.false in
-    let f = kept_few (given a.numbers) a.keyed.length g.kept in
-    (omega (arith, c.if-read_limit-run.false, c.read_limit.ensures, g.squeezed-fits), f.0, f.1)) in
     let a = c.args in
-    let t = total in
+    let t = reads (given a.numbers) a.keyed was c.if-run-ne-SQUEEZING.false c.read_limit.result (length a.out.now) c.read_limit.ensures c.if-read_limit-run.false in
     (t.1, (closed (given a.numbers) a.keyed was c.if-run-ne-SQUEEZING.false).absorbed-fits, omega (arith, t.0, t.2))
 
 pub overflow_add-count : goal.overflow_add-count
 overflow_add-count c =
     let was = sym c.is_reachable.ensures ∙ c.if-not-is_reachable.false in
-    let total : ((c.args.keyed.run.squeezed + length c.args.out.now ≤ limit (given c.args.numbers) c.args.keyed.length) × (c.args.keyed.length ≤ long_output) × (limit (given c.args.numbers) c.args.keyed.length ≤ long_output)) = (let a = c.args in
-    let g = closed (given a.numbers) a.keyed was c.if-run-ne-SQUEEZING.false in
-    let f = kept_few (given a.numbers) a.keyed.length g.kept in
-    (omega (arith, c.if-read_limit-run.false, c.read_limit.ensures, g.squeezed-fits), f.0, f.1)) in
     let a = c.args in
-    let t = total in
+    let t = reads (given a.numbers) a.keyed was c.if-run-ne-SQUEEZING.false c.read_limit.result (length a.out.now) c.read_limit.ensures c.if-read_limit-run.false in
     let o = closed (given a.numbers) a.keyed was c.if-run-ne-SQUEEZING.false in
     omega (arith, o.few, o.absorbed-fits, c.closed_own.ensures.0, c.closed_own.ensures.1, c.closed_own-2.ensures.1, t.0, t.2, a.numbers.usable.4)
 
 pub returns : goal.returns
 returns c =
     let was = sym c.is_reachable.ensures ∙ c.if-not-is_reachable.false in
-    let total : ((c.args.keyed.run.squeezed + length c.args.out.now ≤ limit (given c.args.numbers) c.args.keyed.length) × (c.args.keyed.length ≤ long_output) × (limit (given c.args.numbers) c.args.keyed.length ≤ long_output)) = (let a = c.args in
-    let g = closed (given a.numbers) a.keyed was c.if-run-ne-SQUEEZING.false in
-    let f = kept_few (given a.numbers) a.keyed.length g.kept in
-    (omega (arith, c.if-read_limit-run.false, c.read_limit.ensures, g.squeezed-fits), f.0, f.1)) in
     let a = c.args in
     let s = a.numbers.usable in
     let past = was in
     let phase = c.if-run-ne-SQUEEZING.false in
     let q = c.squeeze-given in
     let ok = fits-valid 24 a.numbers.rate a.keyed.run.position refl (closed_place (given a.numbers) a.keyed s.0 past phase) s.0 s.1 in
-    let e = squeeze_0 (given a.numbers) a.keyed past (length a.out.now) phase (total).0 in record {
+    let e = squeeze_0 (given a.numbers) a.keyed past (length a.out.now) phase (reads (given a.numbers) a.keyed past phase c.read_limit.result (length a.out.now) c.read_limit.ensures c.if-read_limit-run.false).0 in record {
       value = c.answered.ensures
           ∙ squeeze-answer (given a.numbers) a.keyed s.0 s.2 past (length a.out.now) (record { status = q.result.status; state = record { value = q.new.lanes; position = q.result.position } }) _ ok q.ensures.position_after
           (λ i. a.keyed.run.permutations - c.closed_own.ensures.0 i + c.closed_own-2.ensures.0 i) phase e;

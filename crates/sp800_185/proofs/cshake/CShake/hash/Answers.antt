@@ -2,12 +2,13 @@ use mathlib.Core.Path.{sym, ap, ◌∙◌}
 use mathlib.Core.List.{◌++◌}
 use Prim.Native.Nat.{ℕ, zero-le}
 use lib.ListN.{length}
-use Rattle.sp800_185.specs.Published.{encode_string, bytepad}
+use Rattle.sp800_185.specs.Published.{encode_string, bytepad, shake_byte}
 use Rattle.sp800_185.specs.Start.{start_run}
 use Rattle.sp800_185.specs.Function.{Function, cshake_at}
 use Rattle.sp800_185.specs.Model.{plain}
 use Rattle.sp800_185.specs.Cshake.{shake_at}
 use Rattle.hasher.specs.Model as hasher
+use Rattle.hasher.specs.declared.Numbers.{Numbers}
 use Rattle.sp800_185.proofs.Digest.{asked, cshake-status, cshake_untouched, cshake-within, cshake-written}
 use Rattle.sp800_185.proofs.OneGo.{shake-status, shake-output}
 use Rattle.sp800_185.proofs.cshake.CShake.hash.Goals as goal
@@ -34,7 +35,8 @@ returns-then-both_empty-clause-value g c =
     let a = c.args in
     let m = length a.message.now in
     let n = length a.out.now in
-    c.hash.ensures.value ∙ ap (λ (k : ℕ). hasher.one_go_status (shake_at k) m tt n) c.RATE.ensures ∙ shake-status rate r.0 r.1 a.name.now a.string.now b m n
+    c.hash.ensures.value ∙ ap (λ (f : Numbers). hasher.hash_at_status f.rate f.rounds f.limit m 0 n) c.shake_numbers.ensures
+    ∙ ap (λ (k : ℕ). hasher.one_go_status (shake_at k) m tt n) c.RATE.ensures ∙ shake-status rate r.0 r.1 a.name.now a.string.now b m n
 
 pub returns-then-both_empty-clause-out_after : goal.returns-then-both_empty-clause-out_after
 returns-then-both_empty-clause-out_after g c =
@@ -42,7 +44,8 @@ returns-then-both_empty-clause-out_after g c =
     let r = g.met.Self.CShake.in_range in
     let b = sym c.both_empty.ensures ∙ c.if-both_empty.true in
     let a = c.args in
-    c.hash.ensures.out_after ∙ ap (λ (k : ℕ). hasher.one_go_output (shake_at k) a.message.now tt a.out.now) c.RATE.ensures
+    c.hash.ensures.out_after ∙ ap (λ (f : Numbers). hasher.hash_at_output f.rate f.rounds f.limit a.message.now 0 shake_byte a.out.now) c.shake_numbers.ensures
+    ∙ ap (λ (k : ℕ). hasher.one_go_output (shake_at k) a.message.now tt a.out.now) c.RATE.ensures
     ∙ shake-output rate r.0 r.1 a.name.now a.string.now b a.message.now a.out.now
 
 pub cshake_start-run-requires : goal.cshake_start-run-requires
