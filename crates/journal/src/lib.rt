@@ -103,9 +103,7 @@ impl Journal {
             return refuse_event(self.run, &event[0..0]);
         }
         let encoding = kangarootwelve::length_encode(event.len() as u64);
-        let bytes = encoding.bytes;
-        let start = encoding.start;
-        absorb_both(self.run, event, &bytes[start..9])
+        absorb_both(self.run, event, encoding.as_slice())
     }
 
     // Absorbs a piece of the station's name. The first one, even an empty one, ends the events.

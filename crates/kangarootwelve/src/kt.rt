@@ -6,9 +6,21 @@ ghost use Rattle.sponge.specs.Transcript.{Call};
 ghost use Rattle.kangarootwelve.specs.Model.{fresh_of, answer_of, answer_abreast, states_after, output_of, hash_status, hash_output, abreast_status, abreast_output};
 ghost use Rattle.kangarootwelve.specs.declared.Run.{Run};
 
-use crate::{Kt128, Kt256, Run, calls, one_go};
-use hasher::HasherAnswer;
-use turboshake::{TurboShake128, TurboShake256};
+use crate::{Kt128, Kt256, Run, Strength, calls, one_go};
+use hasher::{Hasher, HasherAnswer};
+use turboshake::{TurboShake, TurboShake128, TurboShake256};
+
+impl Strength {
+    pub(crate) fn of<K: Kt>() -> Strength
+        ensures rate_value { result.rate ≡ K.RATE }
+        ensures chaining_value { result.chaining ≡ K.CHAINING }
+    {
+        Strength {
+            rate: K::RATE,
+            chaining: K::CHAINING,
+        }
+    }
+}
 
 // A strength: the type of its runs, the rate, the capacity and the length of a chaining value, in bytes.
 pub trait Kt: Copy {
@@ -49,8 +61,7 @@ pub trait Kt: Copy {
         let mut node = given.node;
         let mut leaf = given.leaf;
         let moved = calls::absorb(
-            Self::RATE,
-            Self::CHAINING,
+            Strength::of::<Self>(),
             &mut node.lanes,
             &mut leaf.lanes,
             at,
@@ -72,8 +83,7 @@ pub trait Kt: Copy {
         let mut node = given.node;
         let mut leaf = given.leaf;
         let moved = calls::absorb_abreast(
-            Self::RATE,
-            Self::CHAINING,
+            Strength::of::<Self>(),
             &mut node.lanes,
             &mut leaf.lanes,
             at,
@@ -95,8 +105,7 @@ pub trait Kt: Copy {
         let mut node = given.node;
         let mut leaf = given.leaf;
         let moved = calls::customize(
-            Self::RATE,
-            Self::CHAINING,
+            Strength::of::<Self>(),
             &mut node.lanes,
             &mut leaf.lanes,
             at,
@@ -117,8 +126,7 @@ pub trait Kt: Copy {
         let mut node = given.node;
         let mut leaf = given.leaf;
         let moved = calls::finalize(
-            Self::RATE,
-            Self::CHAINING,
+            Strength::of::<Self>(),
             &mut node.lanes,
             &mut leaf.lanes,
             at,
@@ -138,13 +146,7 @@ pub trait Kt: Copy {
         let at = calls::progress(given);
         let mut node = given.node;
         let mut leaf = given.leaf;
-        let moved = calls::finish(
-            Self::RATE,
-            Self::CHAINING,
-            &mut node.lanes,
-            &mut leaf.lanes,
-            at,
-        );
+        let moved = calls::finish(Strength::of::<Self>(), &mut node.lanes, &mut leaf.lanes, at);
         HasherAnswer {
             hasher: Self::from_run(calls::run_with(node, leaf, moved.at)),
             status: moved.status,
@@ -159,7 +161,7 @@ pub trait Kt: Copy {
         let given = self.run();
         let at = calls::progress(given);
         let mut node = given.node;
-        let moved = calls::squeeze(Self::RATE, Self::CHAINING, &mut node.lanes, at, out);
+        let moved = calls::squeeze(Strength::of::<Self>(), &mut node.lanes, at, out);
         HasherAnswer {
             hasher: Self::from_run(calls::run_with(node, given.leaf, moved.at)),
             status: moved.status,
@@ -171,7 +173,7 @@ pub trait Kt: Copy {
         ensures value { result ≡ hash_status (length message.now) (length customization.now) (length out.old) }
         ensures out_after { out.new ≡ hash_output RATE CHAINING message.now customization.now out.old }
     {
-        one_go::hash(Self::RATE, Self::CHAINING, message, customization, out)
+        one_go::hash(Strength::of::<Self>(), message, customization, out)
     }
 
     // The same, with every four leaves that lie whole in the message abreast, in a lent slice of 100 words. A call that is done leaves the slice zero.
@@ -185,14 +187,7 @@ pub trait Kt: Copy {
         ensures out_after { out.new ≡ abreast_output RATE CHAINING (length states.old) message.now customization.now out.old }
         ensures states_after { states.new ≡ states_after result states.old }
     {
-        one_go::hash_abreast(
-            Self::RATE,
-            Self::CHAINING,
-            message,
-            customization,
-            out,
-            states,
-        )
+        one_go::hash_abreast(Strength::of::<Self>(), message, customization, out, states)
     }
 }
 

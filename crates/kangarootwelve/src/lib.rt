@@ -1,12 +1,11 @@
 // KT128 and KT256: draft-irtf-cfrg-kangarootwelve-16, section 3, in one go and in pieces. HopMAC128 and HopMAC256, section 4, in one go,
 // and their tag check.
 //
-// A type for each strength, whose calls are those of the traits `Kt` and `HopMac`, over the rate, the length of a chaining value and that of an inner
-// digest.
+// A type for each strength, whose calls are those of the traits `Kt` and `HopMac`. What they call takes a `Strength`, the rate and the length of a chaining
+// value.
 #![tactic(auto)]
 
 mod calls;
-mod encode;
 mod fours;
 mod hopmac;
 mod kt;
@@ -16,7 +15,7 @@ mod reached;
 mod totals;
 mod tree;
 
-ghost use Rattle.std.specs.Prelude.{◌≡◌};
+ghost use Rattle.std.specs.Prelude.{◌≡◌, ◌<◌, ◌≤◌, ◌%◌, drop};
 ghost use Rattle.kangarootwelve.specs.Model.{encoding_of};
 ghost use Rattle.kangarootwelve.specs.Mac.{same_bytes};
 
@@ -70,6 +69,14 @@ pub struct Run {
     pub permutations: u64,
 }
 
+// What the strengths differ in: the rate and the length of a chaining value, in bytes. Both are whole words, and a value fits a block.
+#[derive(Clone, Copy)]
+struct Strength {
+    rate: usize,
+    chaining: usize,
+    ghost bounds: { (0 < rate) × (rate ≤ 200) × (rate % 8 ≡ 0) × (0 < chaining) × (chaining ≤ 64) × (chaining % 8 ≡ 0) × (chaining ≤ rate) },
+}
+
 // What a run holds beside its lanes: the two positions, the phase, the totals and the permutations.
 #[derive(Clone, Copy)]
 struct Progress {
@@ -82,7 +89,7 @@ struct Progress {
     permutations: u64,
 }
 
-// What a call leaves of a run beside its lanes, and its status.
+// What a call leaves of a run beside its lanes, and its status. Kept: one equation says what a call answers, done or refused, which a Result would split.
 #[derive(Clone, Copy)]
 struct Moved {
     at: Progress,
@@ -132,6 +139,16 @@ pub struct LengthEncoding {
     pub start: usize,
 }
 
+impl LengthEncoding {
+    // The encoding itself: the bytes from `start` on.
+    pub fn as_slice(&self) -> &[u8]
+        ensures { result.now ≡ drop self.now.start self.now.bytes }
+    {
+        &self.bytes[self.start.min(9)..]
+    }
+}
+
+// Kept: `verdict_of` in specs/Mac.antt fixes both fields.
 // What the tag check answers: the status, and whether the presented tag is right, document 01's yes and no.
 #[derive(Clone, Copy)]
 pub struct Verdict {
@@ -144,7 +161,15 @@ pub fn length_encode(x: u64) -> LengthEncoding
     ensures { result ≡ encoding_of x }
 {
     let mut bytes = [0u8; 9];
-    let start = encode::length_encode(x, &mut bytes);
+    let mut start = 8;
+    let mut rest = x;
+    // Kept: the loop counts no index; it takes the digits off the number, the last one first.
+    while 0 < rest {
+        start -= 1;
+        bytes[start] = (rest % 256) as u8;
+        rest /= 256;
+    }
+    bytes[8] = (8 - start) as u8;
     LengthEncoding { bytes, start }
 }
 
