@@ -55,9 +55,9 @@ impl<K: Kt> TimedRun for Abreast<K> {
     }
 
     fn feed(&mut self, piece: &[u8]) -> Result<(), Refusal> {
-        let answered = self.hasher.absorb_abreast(piece, &mut self.states);
-        self.hasher = answered.hasher;
-        accepted(answered.status)
+        let fed = self.hasher.absorb_abreast(piece, &mut self.states);
+        self.hasher = fed.hasher;
+        accepted(fed.status)
     }
 
     fn read(self, out: &mut [u8]) -> u8 {
