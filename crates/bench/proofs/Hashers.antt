@@ -6,7 +6,6 @@ use mathlib.Core.List.{List, []}
 use Prim.Native.Nat.{ℕ, ◌<◌}
 use native.Mathlib.Omega.{arith}
 use lib.ListN.{length}
-use Rattle.sponge.specs.Transcript.{Call}
 use Rattle.hasher.specs.Function.{Function, long_output, output}
 use Rattle.hasher.specs.Claims.{Meets}
 use Rattle.hasher.specs.Model.{fresh_of, answer, written}
@@ -23,10 +22,8 @@ use Rattle.kangarootwelve.specs.Published as kt-published
 use Rattle.kangarootwelve.specs.Transcript as kt-transcript
 use Rattle.kangarootwelve.specs.Model as kt
 use Rattle.kangarootwelve.specs.declared.Run as kt-run
-use Rattle.kangarootwelve.specs.declared.Kt128.{Kt128}
-use Rattle.kangarootwelve.specs.declared.Answer128.{Answer128}
 use Rattle.kangarootwelve.proofs.Pieces as kt-pieces
-use Rattle.bench.proofs.Pieces.{Hasher}
+use Rattle.bench.proofs.Absorbed.{Hasher}
 
 -- ---- the functions of `hasher`
 
@@ -114,10 +111,3 @@ module _ (rate chaining : ℕ) (positive : 0 < rate) where
 
 abbrev pub kt128_hasher : Hasher (List ℕ) kt-run.Run kt.Answer
 kt128_hasher = kt_hasher 168 32 (omega arith)
-
--- from what a call's contract says of its answer x
-abbrev pub answer128 : Answer128 → kt.Answer
-answer128 x = record { status = x.status; run = x.hasher.run }
-
-pub answered128 : (h : Kt128) (c : Call (List ℕ)) (x : Answer128) → x ≡ kt.answer128 h c → answer128 x ≡ kt.answer_of 168 32 h.run c
-answered128 h c x e = ap answer128 e

@@ -1,5 +1,6 @@
--- The crate `bench_abreast` uses `Pieces` (the loop over pieces) and `Hashers`.
-pub mod Pieces
+-- The crate `bench_abreast` uses `Absorbed` and `Hashers`.
+pub mod Absorbed
 pub mod Hashers
+mod Statuses
 mod Started
 mod StartedHashers

@@ -14,16 +14,14 @@ use Rattle.sponge.specs.Transcript.{Call, Call.absorb, Call.finalize, Call.squee
 use Rattle.sp800_185.specs.Published.{left_encode, right_encode, encode_string, bytepad, cshake_prefix, cshake_byte, cshake_string, cshake, kmac_name, kmac_message, kmac}
 use Rattle.sp800_185.specs.Start.{kmac_prefix, start_run}
 use Rattle.sp800_185.specs.Function.{cshake_at, kmac_at, output}
-use Rattle.sp800_185.specs.Model.{State, machine, held, answer_of, plain, answer, written}
+use Rattle.sp800_185.specs.Model.{State, machine, held, answer, written}
 use Rattle.sp800_185.specs.Cshake as customizable
 use Rattle.sp800_185.specs.Kmac as keyed
+use Rattle.sp800_185.specs.Cshake.{Customized, CustomizedAnswer}
 use Rattle.sp800_185.specs.declared.Kmac128.{Kmac128}
-use Rattle.sp800_185.specs.declared.Kmac128Answer.{Kmac128Answer}
-use Rattle.sp800_185.specs.declared.CShake128.{CShake128}
-use Rattle.sp800_185.specs.declared.CShake128Answer.{CShake128Answer}
 use Rattle.sp800_185.proofs.OneGo.{cshake-shorter}
-use Rattle.bench.specs.Pieces.{bench_name, bench_string, bench_key, cshake_with_strings, kmac_of32}
-use Rattle.bench.proofs.Pieces.{Hasher}
+use Rattle.bench.specs.Pieces.{bench_name, bench_string, bench_key, cshake_with_strings, timed_kmac}
+use Rattle.bench.proofs.Absorbed.{Hasher}
 use Rattle.bench.proofs.Started as started
 use Rattle.bench.proofs.Started.{Begun}
 
@@ -59,31 +57,38 @@ pub kmac-output : (m : List ℕ) (n : ℕ) → n ≤ 32 → output (kmac_at 168 
 unfolding kmac
 kmac-output m n l = keyed_output m 32 n ∙ cshake-shorter 168 (omega arith) (kmac_message 168 bench_key m 32) kmac_name bench_string n 32 l
 
--- on KMAC128's own structs
+pub key_started : (keyed.start_answer 168 bench_key bench_string).keyed ≡ held (started.after (kmac_at 168 102360992) key_prefix [])
+unfolding keyed.start_answer keyed.start_status bench_key start_run machine key_prefix
+key_started = refl
+
+-- on KMAC128's own struct
+pub record KmacAnswer : Type 0 where
+  pub hasher : Kmac128
+  pub status : ℕ
+
+abbrev pub kmac_started : Kmac128
+kmac_started = record { run = (keyed.start_answer 168 bench_key bench_string).keyed.run; output_length = (keyed.start_answer 168 bench_key bench_string).keyed.length }
+
 abbrev pub kmac_of : Run State → Kmac128
 kmac_of r = record { run = (held r).run; output_length = (held r).length }
 
-abbrev pub kmac_answer : Kmac128 → Call ℕ → Kmac128Answer
-kmac_answer h c = let a = answer (kmac_at 168 102360992) (record { run = h.run; length = h.output_length }) c in record { hasher = record { run = a.keyed.run; output_length = a.keyed.length }; status = a.status }
+abbrev pub kmac_answer : Kmac128 → Call ℕ → KmacAnswer
+kmac_answer h c =
+    let a = answer (kmac_at 168 102360992) (record { run = h.run; length = h.output_length }) c in
+    record { hasher = record { run = a.keyed.run; output_length = a.keyed.length }; status = a.status }
 
--- from what a call's contract says of its answer x
-pub kmac-answered : (h : Kmac128) (c : Call ℕ) (x : Kmac128Answer)
-    → record { keyed = record { run = x.hasher.run; length = x.hasher.output_length }; status = x.status } ≡ answer_of (plain (kmac_at 168 102360992)) (record { run = h.run; length = h.output_length }) c
-    → x ≡ (let a = answer_of (plain (kmac_at 168 102360992)) (record { run = h.run; length = h.output_length }) c in record { hasher = record { run = a.keyed.run; output_length = a.keyed.length }; status = a.status })
-kmac-answered h c x e = λ i. record { hasher = record { run = (e i).keyed.run; output_length = (e i).keyed.length }; status = (e i).status }
-
-abbrev pub kmac_hasher : Hasher ℕ Kmac128 Kmac128Answer
+abbrev pub kmac_hasher : Hasher ℕ Kmac128 KmacAnswer
 kmac_hasher = record {
   answer = kmac_answer;
   status = λ x. x.status;
   left = λ x. x.hasher;
   output = λ h out. written (kmac_at 168 102360992) (record { run = h.run; length = h.output_length }) out;
   argument = 32;
-  timed = kmac_of32;
-  fresh = kmac_of (started.after (kmac_at 168 102360992) key_prefix []);
+  timed = timed_kmac;
+  fresh = kmac_started;
   after = λ m. kmac_of (started.after (kmac_at 168 102360992) key_prefix m);
   closed = λ m. kmac_of (started.closed (kmac_at 168 102360992) key_prefix m 32);
-  fresh_run_lem = refl;
+  fresh_run_lem = λ i. record { run = (key_started i).run; output_length = (key_started i).length };
   absorb_piece = λ m x l.
       let e = started.absorb_piece (kmac_at 168 102360992) key_prefix kmac-begun m x l in
       (λ i. (e i).status, λ i. record { run = (e i).keyed.run; output_length = (e i).keyed.length });
@@ -96,11 +101,6 @@ kmac_hasher = record {
       (e.0, e.1 ∙ kmac-output m (length out) l);
   squeeze_long = started.squeeze_long (kmac_at 168 102360992) key_prefix kmac-begun 32 refl;
 }
-
-pub kmac-started : (x : Kmac128Answer) → record { keyed = record { run = x.hasher.run; length = x.hasher.output_length }; status = x.status } ≡ keyed.start_answer 168 bench_key bench_string
-    → x.hasher ≡ kmac_hasher.fresh
-unfolding keyed.start_answer keyed.start_status bench_key start_run machine key_prefix
-kmac-started x e = λ i. record { run = (e i).keyed.run; output_length = (e i).keyed.length }
 
 -- ---- cSHAKE128
 
@@ -124,33 +124,27 @@ pub cshake-output : (m : List ℕ) (n : ℕ) → output (cshake_at 168 199729) s
 unfolding output string_prefix cshake_string cshake
 cshake-output m n = ap (λ (s : List ℕ). sponge (last_rounds 24) 168 (cshake_prefix 168 bench_name bench_string ++ s) cshake_byte n) (append-nil m)
 
--- on cSHAKE128's own structs, with the bit that does not say SHAKE
-abbrev pub cshake_of : Run State → CShake128
+-- with the bit that does not say SHAKE
+abbrev pub cshake_of : Run State → Customized
 cshake_of r = record { run = (held r).run; shake = false }
 
-abbrev pub cshake_answer : CShake128 → Call (Unit {0}) → CShake128Answer
-cshake_answer h c = let a = customizable.answer 168 199729 (record { run = h.run; shake = h.shake }) c in record { hasher = record { run = a.customized.run; shake = a.customized.shake }; status = a.status }
-
--- from what a call's contract says of its answer x
-pub cshake-answered : (h : CShake128) (c : Call (Unit {0})) (x : CShake128Answer)
-    → record { customized = record { run = x.hasher.run; shake = x.hasher.shake }; status = x.status } ≡ customizable.answer 168 199729 (record { run = h.run; shake = h.shake }) c
-    → x ≡ cshake_answer h c
-cshake-answered h c x e = λ i. record { hasher = record { run = (e i).customized.run; shake = (e i).customized.shake }; status = (e i).status }
+abbrev pub cshake_answer : Customized → Call (Unit {0}) → CustomizedAnswer
+cshake_answer = customizable.answer 168 199729
 
 -- on a run that keeps no length, the calls are those of the function
 module _ (r : Run State) (none : r.state.output_length ≡ 0) where
   same_answer : (c : Call (Unit {0}))
-      → cshake_answer (cshake_of r) c ≡ (let a = answer (cshake_at 168 199729) (held r) c in record { hasher = record { run = a.keyed.run; shake = false }; status = a.status })
+      → cshake_answer (cshake_of r) c ≡ (let a = answer (cshake_at 168 199729) (held r) c in record { customized = record { run = a.keyed.run; shake = false }; status = a.status })
   unfolding customizable.answer
-  same_answer c = λ i. let a = answer (cshake_at 168 199729) (record { run = (held r).run; length = sym none i }) c in record { hasher = record { run = a.keyed.run; shake = false }; status = a.status }
+  same_answer c = λ i. let a = answer (cshake_at 168 199729) (record { run = (held r).run; length = sym none i }) c in record { customized = record { run = a.keyed.run; shake = false }; status = a.status }
 
   pub same_status : (c : Call (Unit {0})) → (cshake_answer (cshake_of r) c).status ≡ (answer (cshake_at 168 199729) (held r) c).status
   same_status c = λ i. (same_answer c i).status
 
-  pub same_left : (c : Call (Unit {0})) → (cshake_answer (cshake_of r) c).hasher ≡ record { run = (answer (cshake_at 168 199729) (held r) c).keyed.run; shake = false }
-  same_left c = λ i. (same_answer c i).hasher
+  pub same_left : (c : Call (Unit {0})) → (cshake_answer (cshake_of r) c).customized ≡ record { run = (answer (cshake_at 168 199729) (held r) c).keyed.run; shake = false }
+  same_left c = λ i. (same_answer c i).customized
 
-  pub same_written : (out : List ℕ) → customizable.written 168 199729 (record { run = (held r).run; shake = false }) out ≡ written (cshake_at 168 199729) (held r) out
+  pub same_written : (out : List ℕ) → customizable.written 168 199729 (cshake_of r) out ≡ written (cshake_at 168 199729) (held r) out
   unfolding customizable.written
   same_written out = λ i. written (cshake_at 168 199729) (record { run = (held r).run; length = sym none i }) out
 
@@ -168,18 +162,22 @@ pub closed_none : (m : List ℕ) → (closed m).state.output_length ≡ 0
 unfolding machine
 closed_none m = refl
 
-abbrev pub cshake_hasher : Hasher (Unit {0}) CShake128 CShake128Answer
+pub string_started : (customizable.start_answer 168 bench_name bench_string).customized ≡ cshake_of (after [])
+unfolding customizable.start_answer customizable.start_status start_run machine string_prefix
+string_started = refl
+
+abbrev pub cshake_hasher : Hasher (Unit {0}) Customized CustomizedAnswer
 cshake_hasher = record {
   answer = cshake_answer;
   status = λ x. x.status;
-  left = λ x. x.hasher;
-  output = λ h out. customizable.written 168 199729 (record { run = h.run; shake = h.shake }) out;
+  left = λ x. x.customized;
+  output = customizable.written 168 199729;
   argument = tt;
   timed = cshake_with_strings;
-  fresh = cshake_of (after []);
+  fresh = (customizable.start_answer 168 bench_name bench_string).customized;
   after = λ m. cshake_of (after m);
   closed = λ m. cshake_of (closed m);
-  fresh_run_lem = refl;
+  fresh_run_lem = string_started;
   absorb_piece = λ m x l.
       let e = started.absorb_piece (cshake_at 168 199729) string_prefix cshake-begun m x l in
       (same_status (after m) (after_none m) (absorb x) ∙ (λ i. (e i).status), same_left (after m) (after_none m) (absorb x) ∙ (λ i. record { run = (e i).keyed.run; shake = false }));
@@ -194,8 +192,3 @@ cshake_hasher = record {
       let e = started.squeeze_long (cshake_at 168 199729) string_prefix cshake-begun tt refl m out h l in
       (same_status (closed m) (closed_none m) (squeeze (length out)) ∙ e.0, same_written (closed m) (closed_none m) out ∙ e.1);
 }
-
-pub cshake-started : (x : CShake128Answer) → record { customized = record { run = x.hasher.run; shake = x.hasher.shake }; status = x.status } ≡ customizable.start_answer 168 bench_name bench_string
-    → x.hasher ≡ cshake_hasher.fresh
-unfolding customizable.start_answer customizable.start_status start_run machine string_prefix
-cshake-started x e = λ i. record { run = (e i).customized.run; shake = (e i).customized.shake }

@@ -6,7 +6,7 @@ use Rattle.sponge.specs.Transcript.{lent}
 use Rattle.hasher.specs.Function.{message_limit, long_output}
 use Rattle.turboshake.specs.Published.{turboshake128}
 use Rattle.fips202.specs.Published.{sha3, shake}
-use Rattle.kangarootwelve.specs.Published.{kt128, kt256}
+use Rattle.kangarootwelve.specs.Published.{kt, kt128, kt256}
 use Rattle.sp800_185.specs.Published.{cshake, kmac}
 
 -- a function that is timed: its published output, of the message and the number of bytes asked, and the most bytes that are read
@@ -15,14 +15,16 @@ pub record Timed : Type 0 where
   pub limit : ℕ
 
 -- TurboSHAKE128 with D = 1F
-abbrev pub turboshake_with1_f : Timed
-turboshake_with1_f = record { output = λ m n. turboshake128 m 0x1F n; limit = long_output }
+abbrev pub timed_turboshake : Timed
+timed_turboshake = record { output = λ m n. turboshake128 m 0x1F n; limit = long_output }
 
--- KT128 with C empty
+-- KT with C empty, over the rate and the bytes of a chaining value; and at its two strengths
+abbrev pub kt_at_with_none : ℕ → ℕ → Timed
+kt_at_with_none rate chaining = record { output = λ m n. kt rate chaining m [] n; limit = long_output }
+
 abbrev pub kt_with_none : Timed
 kt_with_none = record { output = λ m n. kt128 m [] n; limit = long_output }
 
--- KT256 with C empty
 abbrev pub kt256_with_none : Timed
 kt256_with_none = record { output = λ m n. kt256 m [] n; limit = long_output }
 
@@ -48,14 +50,22 @@ cshake_with_strings = record { output = λ m n. cshake 168 m n bench_name bench_
 unfoldable pub bench_key : List ℕ
 bench_key = replicate 32 0x40
 
-abbrev pub kmac_of32 : Timed
-kmac_of32 = record { output = λ m n. take n (kmac 168 bench_key m 32 bench_string); limit = 32 }
+abbrev pub timed_kmac : Timed
+timed_kmac = record { output = λ m n. take n (kmac 168 bench_key m 32 bench_string); limit = 32 }
 
 -- pieces of no bytes: a number of the benchmark's own
 abbrev pub bad_step : ℕ
 bad_step = 9
 
 module _ (f : Timed) where
+  -- the status of the squeeze of n bytes
+  unfoldable pub read_status : ℕ → ℕ
+  read_status n = cond (leb n f.limit) done output_too_long
+
+  -- what the lent output holds after it
+  unfoldable pub read_output : List ℕ → List ℕ → List ℕ
+  read_output m out = lent (read_status (length out)) (f.output m (length out)) out
+
   -- the status for m bytes in pieces of `step`, and n bytes asked
   unfoldable pub pieces_status : ℕ → ℕ → ℕ → ℕ
   pieces_status step m n = cond (eqb step 0) bad_step (cond (leb m message_limit) (cond (leb n f.limit) done output_too_long) input_too_long)

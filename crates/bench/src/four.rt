@@ -11,10 +11,8 @@ pub fn bench_permute_four(states: &mut [u64], count: usize) -> u8
     if states.len() != 100 {
         return abreast::BAD_STATES;
     }
-    let mut i: usize = 0;
-    while i < count {
+    for _ in 0..count {
         abreast::permute_in_place(states, turboshake::ROUNDS);
-        i += 1;
     }
     abreast::DONE
 }

@@ -6,14 +6,18 @@ pub mod four;
 pub mod in_place;
 pub mod keyed;
 pub mod kt;
+pub mod pieces;
 
-ghost use Rattle.std.specs.Prelude.{◌≡◌, min, length};
-ghost use Rattle.hasher.specs.Model.{one_go_status, one_go_output};
+ghost use Rattle.sponge.specs.Transcript.{Call};
+ghost use Rattle.std.specs.Prelude.{◌≡◌, length};
+ghost use Rattle.hasher.specs.Model.{answer, fresh_of, one_go_status, one_go_output};
 ghost use Rattle.turboshake.specs.Transcript.{function};
-ghost use Rattle.bench.specs.Pieces.{turboshake_with1_f, pieces_status, pieces_output};
+ghost use Rattle.bench.specs.Pieces.{timed_turboshake, pieces_status, pieces_output};
 ghost use Rattle.bench.specs.Repeat.{repeated};
 
-use turboshake::TurboShake128;
+use hasher::{Hasher, Refusal};
+use pieces::{TimedRun, accepted, hash_pieces};
+use turboshake::{TurboShake, TurboShake128};
 
 const DOMAIN: u8 = 0x1F;
 
@@ -24,43 +28,37 @@ pub const BAD_STEP: u8 = 9;
 pub fn bench_permute(lanes: &mut [u64; 25], count: usize)
     ensures { lanes.new ≡ repeated count lanes.old }
 {
-    let mut i: usize = 0;
-    while i < count {
+    for _ in 0..count {
         keccak::permute_in_place(lanes, turboshake::ROUNDS);
-        i += 1;
     }
 }
 
-pub fn least(x: usize, y: usize) -> usize
-    ensures { result ≡ min x y }
-{
-    if x < y { x } else { y }
+impl TimedRun for TurboShake128 {
+    ghost timed = { timed_turboshake };
+
+    ghost has_absorbed = { λ h m. h.run ≡ (answer (function 168) fresh_of (Call.absorb m)).run };
+
+    fn begin() -> Self {
+        TurboShake128::fresh()
+    }
+
+    fn feed(&mut self, piece: &[u8]) -> Result<(), Refusal> {
+        let answered = self.absorb(piece);
+        *self = answered.hasher;
+        accepted(answered.status)
+    }
+
+    fn read(self, out: &mut [u8]) -> u8 {
+        self.finalize(DOMAIN).hasher.squeeze(out).status
+    }
 }
 
 // TurboSHAKE128 of a message, with D = 1F, absorbed in pieces of `step` bytes and squeezed at once.
 pub fn bench_pieces(message: &[u8], step: usize, out: &mut [u8]) -> u8
-    ensures value { result ≡ pieces_status turboshake_with1_f step (length message.now) (length out.old) }
-    ensures out_after { out.new ≡ pieces_output turboshake_with1_f step message.now out.old }
+    ensures value { result ≡ pieces_status timed_turboshake step (length message.now) (length out.old) }
+    ensures out_after { out.new ≡ pieces_output timed_turboshake step message.now out.old }
 {
-    if step == 0 {
-        return BAD_STEP;
-    }
-    let mut hasher = TurboShake128::fresh();
-    let mut i = 0;
-    while i < message.len() {
-        let k = least(step, message.len() - i);
-        let absorbed = hasher.absorb(&message[i..i + k]);
-        let next = absorbed.hasher;
-        hasher = next;
-        if absorbed.status != sponge::status::DONE {
-            return absorbed.status;
-        }
-        i += k;
-    }
-    let finalized = hasher.finalize(DOMAIN);
-    let last = finalized.hasher;
-    let squeezed = last.squeeze(out);
-    squeezed.status
+    hash_pieces::<TurboShake128>(message, step, out)
 }
 
 // The same in one go.

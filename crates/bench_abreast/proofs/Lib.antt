@@ -1,1 +1,1 @@
-mod Hashers
+mod Plainly

@@ -6,3 +6,4 @@ mod kt128;
 mod kt128_abreast;
 mod kt256;
 mod kt256_abreast;
+mod timed;

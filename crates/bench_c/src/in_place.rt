@@ -1,12 +1,12 @@
 // Pieces by the calls on lent lanes.
 ghost use Rattle.std.specs.Prelude.{◌≡◌, length};
-ghost use Rattle.bench.specs.Pieces.{turboshake_with1_f, sha3_256, shake128, pieces_status, pieces_output};
+ghost use Rattle.bench.specs.Pieces.{timed_turboshake, sha3_256, shake128, pieces_status, pieces_output};
 
 // TurboSHAKE128 of a message, with D = 1F.
 #[unsafe(no_mangle)]
 pub extern "C" fn bench_in_place(message: &[u8], step: usize, out: &mut [u8]) -> u8
-    ensures value { result ≡ pieces_status turboshake_with1_f step (length message.now) (length out.old) }
-    ensures out_after { out.new ≡ pieces_output turboshake_with1_f step message.now out.old }
+    ensures value { result ≡ pieces_status timed_turboshake step (length message.now) (length out.old) }
+    ensures out_after { out.new ≡ pieces_output timed_turboshake step message.now out.old }
 {
     bench::in_place::bench_in_place(message, step, out)
 }

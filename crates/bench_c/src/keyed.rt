@@ -2,7 +2,7 @@
 ghost use Rattle.std.specs.Prelude.{◌≡◌, true, length};
 ghost use Rattle.sp800_185.specs.Cshake as cshake;
 ghost use Rattle.sp800_185.specs.Kmac as kmac;
-ghost use Rattle.bench.specs.Pieces.{bench_name, bench_string, bench_key, cshake_with_strings, kmac_of32, pieces_status, pieces_output};
+ghost use Rattle.bench.specs.Pieces.{bench_name, bench_string, bench_key, cshake_with_strings, timed_kmac, pieces_status, pieces_output};
 
 // cSHAKE128 of a message, absorbed in pieces of `step` bytes and squeezed at once.
 #[unsafe(no_mangle)]
@@ -25,8 +25,8 @@ pub extern "C" fn bench_cshake_one_go(message: &[u8], out: &mut [u8]) -> u8
 // KMAC128 of a message, absorbed in pieces of `step` bytes, with an output length of 32 bytes, squeezed at once.
 #[unsafe(no_mangle)]
 pub extern "C" fn bench_kmac_pieces(message: &[u8], step: usize, out: &mut [u8]) -> u8
-    ensures value { result ≡ pieces_status kmac_of32 step (length message.now) (length out.old) }
-    ensures out_after { out.new ≡ pieces_output kmac_of32 step message.now out.old }
+    ensures value { result ≡ pieces_status timed_kmac step (length message.now) (length out.old) }
+    ensures out_after { out.new ≡ pieces_output timed_kmac step message.now out.old }
 {
     bench::keyed::bench_kmac_pieces(message, step, out)
 }

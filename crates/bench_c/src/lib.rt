@@ -10,7 +10,7 @@ mod kt;
 ghost use Rattle.std.specs.Prelude.{◌≡◌, length};
 ghost use Rattle.hasher.specs.Model.{one_go_status, one_go_output};
 ghost use Rattle.turboshake.specs.Transcript.{function};
-ghost use Rattle.bench.specs.Pieces.{turboshake_with1_f, pieces_status, pieces_output};
+ghost use Rattle.bench.specs.Pieces.{timed_turboshake, pieces_status, pieces_output};
 ghost use Rattle.bench.specs.Repeat.{repeated};
 
 // Permutes the lanes `count` times.
@@ -24,8 +24,8 @@ pub extern "C" fn bench_permute(lanes: &mut [u64; 25], count: usize)
 // TurboSHAKE128 of a message, with D = 1F, absorbed in pieces of `step` bytes and squeezed at once.
 #[unsafe(no_mangle)]
 pub extern "C" fn bench_pieces(message: &[u8], step: usize, out: &mut [u8]) -> u8
-    ensures value { result ≡ pieces_status turboshake_with1_f step (length message.now) (length out.old) }
-    ensures out_after { out.new ≡ pieces_output turboshake_with1_f step message.now out.old }
+    ensures value { result ≡ pieces_status timed_turboshake step (length message.now) (length out.old) }
+    ensures out_after { out.new ≡ pieces_output timed_turboshake step message.now out.old }
 {
     bench::bench_pieces(message, step, out)
 }

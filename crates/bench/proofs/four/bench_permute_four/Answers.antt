@@ -1,5 +1,3 @@
--- `bench::four::bench_permute_four` meets its contract. The loop's invariant: the states are those at entry, permuted `i` times.
--- Assumes nothing.
 use mathlib.Core.Path.{◌≡◌, refl, sym, ap, ◌∙◌}
 use mathlib.Core.Logic.{◌≢◌}
 use mathlib.Core.List.{List}
@@ -32,29 +30,26 @@ returns-then-states-ne100 c =
       states_after = stays a.count a.states.now h;
     }
 
-pub loop-i-init : goal.loop-i-init
+pub loop-init : goal.loop-init
 unfolding repeated_four
-loop-i-init c = (omega arith, (refl, refl))
+loop-init c = (refl, refl)
 
-pub loop-i-preserved : goal.loop-i-preserved
-loop-i-preserved c =
-    let at = c.loop-i in (
-      omega (arith, c.loop-i-test.true),
-      (
-        ap length c.permute_in_place.ensures.states_after ∙ abreast.words _ at.states ∙ at.invariant.1.0,
-        one_more _ at.states c.permute_in_place.new.states at.i at.invariant.1.1 c.permute_in_place.ensures.states_after,
-      ),
+pub loop-preserved : goal.loop-preserved
+loop-preserved c =
+    let at = c.loop in (
+      ap length c.permute_in_place.ensures.states_after ∙ abreast.words _ at.states ∙ at.invariant.0,
+      one_more _ at.states c.permute_in_place.new.states at.counter at.invariant.1 c.permute_in_place.ensures.states_after,
     )
 
 pub shape_of-states : goal.shape_of-states
-shape_of-states c = c.loop-i.invariant.1.0
+shape_of-states c = c.loop.invariant.0
 
 pub returns : goal.returns
 returns c =
-    let at = c.loop-i in
+    let at = c.loop in
     let a = c.args in
     let h : length a.states.now ≡ 100 = omega (arith, c.if-states-ne100.false) in
-    let e : at.i ≡ a.count = omega arith in record {
+    let e : at.counter ≡ a.count = omega arith in record {
       value = rw (eq-eqb (length a.states.now) 100 h);
-      states_after = at.invariant.1.1 ∙ ap (λ (k : ℕ). repeated_four k a.states.now) e;
+      states_after = at.invariant.1 ∙ ap (λ (k : ℕ). repeated_four k a.states.now) e;
     }

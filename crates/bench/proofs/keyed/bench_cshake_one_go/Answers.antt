@@ -1,7 +1,0 @@
-use Rattle.bench.proofs.keyed.bench_cshake_one_go.Goals as goal
-
-pub returns : goal.returns
-returns c = let h = c.hash in record {
-  value = h.ensures.value;
-  out_after = h.ensures.out_after;
-}
