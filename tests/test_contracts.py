@@ -9,7 +9,7 @@ from pathlib import Path
 
 ROOT = Path(__file__).resolve().parent.parent
 FUNCTION = (
-    r'fn (\w+)(?:<[^(]*>)?\(([^)]*)\)(?: -> ([^{\n]*?[\w\]>]))?(?:\n *where\n[^{]*?)?((?:\n +(?:requires|ensures)\*?(?: \w+)? \{[^\n]*\})*)(?:(?: |\n *)\{|;)$'
+    r'fn (\w+)(?:<[^(]*>)?\(([^)]*)\)(?: -> ([^{\n]*?[\w\]>]))?(?:\n *where\n[^{]*?)?((?:\n +(?:requires|ensures)\*?(?: \w+)? \{[^\n]*\})*)((?: |\n *)\{|;)$'
 )
 PUBLIC = re.compile(r'^ *pub (?:extern "C" )?' + FUNCTION, re.MULTILINE)
 PUBLIC_LINE = re.compile(r'^ *pub (?:extern "C" )?fn ', re.MULTILINE)
@@ -31,15 +31,15 @@ def libraries():
 
 
 def public_functions():
-    """(where, parameters, result, clauses) of each."""
+    """(where, parameters, result, clauses, whether it has a body) of each."""
     for crate in libraries():
         for file in public_files(crate):
             text = file.read_text()
             parts = [(PUBLIC, text)] + [(METHOD, body) for body in TRAIT.findall(text)]
             for pattern, part in parts:
                 for found in pattern.finditer(part):
-                    name, parameters, result, clauses = found.groups()
-                    yield f"{file.relative_to(ROOT)} {name}", parameters, result, clauses.strip().splitlines()
+                    name, parameters, result, clauses, end = found.groups()
+                    yield f"{file.relative_to(ROOT)} {name}", parameters, result, clauses.strip().splitlines(), end != ";"
 
 
 class Contracts(unittest.TestCase):
@@ -56,7 +56,7 @@ class Contracts(unittest.TestCase):
         self.assertGreater(lines, 40)
 
     def test_any_input(self):
-        for where, _, _, clauses in self.functions:
+        for where, _, _, clauses, _ in self.functions:
             with self.subTest(function=where):
                 self.assertFalse([clause for clause in clauses if clause.startswith("requires")])
 
@@ -70,9 +70,11 @@ class Contracts(unittest.TestCase):
                     self.assertNotRegex(fields, r"^ *ghost ")
 
     def test_what_is_answered(self):
-        for where, parameters, result, clauses in self.functions:
+        """A trait's method without a body may say it by a member of the trait, which each impl gives."""
+        for where, parameters, result, clauses, has_body in self.functions:
             with self.subTest(function=where):
-                equations = [clause.split("{", 1)[1] for clause in clauses if clause.split()[0] == "ensures" and "≡" in clause]
+                said = [clause.split("{", 1)[1] for clause in clauses if clause.split()[0] == "ensures"]
+                equations = [clause for clause in said if "≡" in clause or not has_body]
                 if result:
                     self.assertTrue([e for e in equations if re.search(r"\bresult\b", e)], "nothing is said of the result")
                 for output in re.findall(r"(\w+): &mut ", parameters):
