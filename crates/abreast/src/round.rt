@@ -9,6 +9,8 @@ ghost use Rattle.abreast.specs.Inside.{One, Each};
 ghost use Rattle.abreast.specs.Planes.{effect, turned, moved, mixed, placed};
 
 // Kept: the steps, beside those of `keccak`. These take a slice and a state's number, and invert nothing; those hold one parity inverted.
+// Kept: the length and `j < 4` in the contracts. Lent as an array of 100 by `as_mut_array`, which proves, the words are no more taken two at a time:
+// 59 % more instructions for twelve rounds, measured.
 
 // Five words by their x before pi: theta's D, or plane y, whose lane k stands at x = k + 2 y.
 #[derive(Clone, Copy)]

@@ -55,6 +55,8 @@ fn read_status(words: usize, j: usize, count: usize) -> u8
 }
 
 // XORs a word of each string into lane q of its state: that at byte `at` of the first string, and those `each` bytes after one another.
+// Kept: the length of the states, here and below. The status above refuses another one; to lend an array after it, by `as_mut_array`, takes a second
+// branch for a case that is none by then.
 fn xor_lanes(states: &mut [u64], q: usize, strings: &[u8], at: usize, each: usize)
     requires { (length states.old ≡ 100) × (q < 25) × (at + 8 ≤ each) × (4 * each ≤ length strings.now) }
     ensures { Each (λ k l. set l q (bit_xor (get_or l q 0) (word (take 8 (drop (each * k + at) strings.now))))) states.old states.new }
