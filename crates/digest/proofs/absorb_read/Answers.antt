@@ -17,6 +17,7 @@ pub returns : goal.returns
 returns c =
     let a = c.args in
     let absorb = c.absorb-answer in
-    let done = c.if-answer-ne-DONE.false in
-    (sym absorb.ensures ∙ ap {B = Answer} (λ (s : ℕ). record { status = s; run = absorb.result.hasher.run }) done,
-      taken_absorbed a.hasher.run (take a.n a.buffer.now) c.requires.run _ absorb.ensures done)
+    let done = c.if-answer-ne-DONE.false in (
+      sym absorb.ensures ∙ ap {B = Answer} (λ (s : ℕ). record { status = s; run = absorb.result.hasher.run }) done,
+      taken_absorbed a.hasher.run (take a.n a.buffer.now) c.requires.run _ absorb.ensures done,
+    )
