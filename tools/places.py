@@ -4,7 +4,8 @@
     tools/places.py [COMMIT] [--list]     of that commit, or of the files as they stand; --list prints each place
 
 1 `fields`     fields `status: u8` and `: bool`, and variants `Nothing`, of structs and enums; `answers`: functions that answer a status as a u8
-2 `twins`      functions whose texts are one but for digits, names of types and names of functions
+2 `twins`      functions whose texts are one but for digits, names of types and names of functions; `impls`: those of them that are methods of
+               impls of a trait, which each type owes
 3 `loops`      `while` loops
 4 `conversions` functions of one expression that put the fields of one struct into another, or that write out what std has: the least of two, words
                of bytes, a rotation, a comparison of slices
@@ -57,6 +58,16 @@ def functions(text):
         at = end + 1
 
 
+def in_impls(text):
+    """The lines of a file that stand in an impl of a trait."""
+    inside, found = False, set()
+    for at, line in enumerate(text.split("\n"), 1):
+        inside = inside and line != "}" or bool(re.match(r"impl\b.* for .*\{$", line))
+        if inside:
+            found.add(at)
+    return found
+
+
 def without_comments(text):
     return "\n".join(line for line in text.split("\n") if not line.strip().startswith("//"))
 
@@ -89,6 +100,7 @@ def count(commit):
                 places["6 bounds"].append(f"{name}:{at} {line.strip()}")
             if re.search(r"\b(match|if) (function|strength|own_field\(|chosen|number|op\b)", code) or re.search(r"KeyedFunction::\w+ =>|KtFunction::\w+ =>", code):
                 places["7 switches"].append(f"{name}:{at} {line.strip()}")
+        owed = in_impls(text)
         for at, fn, body in functions(text):
             place = f"{name}:{at} {fn}"
             head = body.split("\n{")[0]
@@ -101,7 +113,7 @@ def count(commit):
             elif fn in ("least", "wide", "word_at", "half_word_at", "word_from", "word_of", "put_word", "byte_of", "rotate_left", "is_same", "all_are", "fill", "digit", "of_two", "of_four", "of_eight", "same"):
                 places["4 conversions"].append(place)
             if body.count("\n") >= 2:
-                shapes[plain(body)].append(place)
+                shapes[plain(body)].append((place, at in owed))
             for clause in re.findall(r"requires (?:\w+ )?\{ (.*) \}", head):
                 for fact in clause.split(" × "):
                     fact = fact.strip()
@@ -114,7 +126,8 @@ def count(commit):
                 together[crate, f"{parameters[i]}, {parameters[i + 1]}"].append(place)
     for where in shapes.values():
         if len(where) > 1:
-            places["2 twins"] += where
+            for place, is_owed in where:
+                places["2 impls" if is_owed else "2 twins"].append(place)
     for (crate, fact), where in sorted(facts.items()):
         if len(where) >= 3:
             places["5 facts"].append(f"{crate}: {fact} ({len(where)})")
