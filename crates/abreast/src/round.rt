@@ -8,6 +8,8 @@ ghost use Rattle.abreast.specs.Four.{state_at};
 ghost use Rattle.abreast.specs.Inside.{One, Each};
 ghost use Rattle.abreast.specs.Planes.{effect, turned, moved, mixed, placed};
 
+// Kept: the steps, beside those of `keccak`. These take a slice and a state's number, and invert nothing; those hold one parity inverted.
+
 // Five words by their x before pi: theta's D, or plane y, whose lane k stands at x = k + 2 y.
 #[derive(Clone, Copy)]
 struct Plane(u64, u64, u64, u64, u64);
@@ -23,11 +25,11 @@ fn theta_effect(a: &[u64], j: usize) -> Plane
     let c3 = a[12 + j] ^ a[32 + j] ^ a[52 + j] ^ a[72 + j] ^ a[92 + j];
     let c4 = a[16 + j] ^ a[36 + j] ^ a[56 + j] ^ a[76 + j] ^ a[96 + j];
     Plane(
-        c4 ^ (c1 << 1 | c1 >> 63),
-        c0 ^ (c2 << 1 | c2 >> 63),
-        c1 ^ (c3 << 1 | c3 >> 63),
-        c2 ^ (c4 << 1 | c4 >> 63),
-        c3 ^ (c0 << 1 | c0 >> 63),
+        c4 ^ c1.rotate_left(1),
+        c0 ^ c2.rotate_left(1),
+        c1 ^ c3.rotate_left(1),
+        c2 ^ c4.rotate_left(1),
+        c3 ^ c0.rotate_left(1),
     )
 }
 
@@ -110,9 +112,7 @@ pub(crate) fn round(a: &mut [u64], rc: u64)
     requires { length a.old ≡ 100 }
     ensures { Each (λ _. spec.round rc) a.old a.new }
 {
-    let mut j: usize = 0;
-    while j < 4 {
+    for j in 0..4 {
         round_of(a, rc, j);
-        j += 1;
     }
 }

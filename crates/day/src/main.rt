@@ -6,64 +6,58 @@
 // not answered 0.
 #![tactic(auto)]
 
-ghost use Rattle.std.specs.Prelude.{◌≡◌, [], ◌∷◌, ◌++◌, ◌+◌, ◌≤◌, length, take};
+ghost use Rattle.std.specs.Prelude.{◌≡◌, ◌≢◌, ◌++◌, ◌+◌, ◌≤◌, length, take, map, sum_by, IfOk, IfErr, OnOk, OnErr};
 ghost use Rattle.sponge.specs.Status.{done};
 ghost use Rattle.journal.specs.Published.{framed, digest};
 
-use journal::Journal;
-use kangarootwelve::Kt128;
+use journal::{Answer, Journal};
+use kangarootwelve::{Kt, Kt128};
 use sponge::status::DONE;
-use std::io;
-use std::io::ErrorKind;
+use std::fmt::{Display, Formatter};
+use std::{array, fmt, io};
 
-// Fills the sensor's dump: byte i is i modulo 251.
-fn fill(dump: &mut [u8]) {
-    let mut i: usize = 0;
-    while i < dump.len() {
-        dump[i] = (i % 251) as u8;
-        i += 1;
+// The status of a call that was not answered 0.
+#[derive(Clone, Copy)]
+struct Refused(u8);
+
+impl Display for Refused {
+    fn fmt<W: fmt::Write>(&self, f: &mut Formatter<W>) -> fmt::Result {
+        write!(f, "refused {}", self.0)
     }
 }
 
-// The shift's part: a call for each event, as it comes. Answers the first status that is not 0; or 0, and then `out` holds the digest of
-// the events under the name.
-fn shift(
-    on: &[u8],
-    level: &[u8],
-    quiet: &[u8],
-    dump: &[u8],
-    off: &[u8],
-    name: &[u8],
-    out: &mut [u8],
-) -> u8
-    ensures { result ≡ done → out.new ≡ digest (on.now ∷ level.now ∷ quiet.now ∷ dump.now ∷ off.now ∷ []) name.now (length out.old) }
+// Whether a status is 0.
+fn answered(status: u8) -> Result<(), Refused>
+    ensures ok { OnOk result (status ≡ done) }
+    ensures err { IfErr result (λ refused. refused.0 ≡ status) }
 {
-    let day = Journal::fresh();
-    let first = day.append(on);
-    if first.status != DONE {
-        return first.status;
+    if status != DONE {
+        return Err(Refused(status));
     }
-    let second = first.journal.append(level);
-    if second.status != DONE {
-        return second.status;
+    Ok(())
+}
+
+// The day that an answer hands back.
+fn taken(answer: Answer) -> Result<Journal, Refused>
+    ensures ok { IfOk result (λ day. answer ≡ record { journal = day; status = done }) }
+    ensures err { IfErr result (λ refused. refused.0 ≡ answer.status) }
+{
+    answered(answer.status)?;
+    Ok(answer.journal)
+}
+
+// The shift's part: a call for each event, as it comes. Answers the digest of the events under the name, or the first status that is not 0.
+fn shift<const N: usize>(events: &[&[u8]], name: &[u8]) -> Result<[u8; N], Refused>
+    ensures { IfOk result (λ out. out ≡ digest (map (λ event. event.now) events.now) name.now N) }
+{
+    let mut day = Journal::fresh();
+    for event in events {
+        day = taken(day.append(event))?;
     }
-    let third = second.journal.append(quiet);
-    if third.status != DONE {
-        return third.status;
-    }
-    let fourth = third.journal.append(dump);
-    if fourth.status != DONE {
-        return fourth.status;
-    }
-    let fifth = fourth.journal.append(off);
-    if fifth.status != DONE {
-        return fifth.status;
-    }
-    let ended = fifth.journal.finalize(name);
-    if ended.status != DONE {
-        return ended.status;
-    }
-    ended.journal.squeeze(out).status
+    let ended = taken(day.finalize(name))?;
+    let mut out = [0u8; N];
+    taken(ended.squeeze(&mut out))?;
+    Ok(out)
 }
 
 // Copies a part into the day's bytes from `at` on, and answers where the next one goes.
@@ -72,12 +66,9 @@ fn put(day: &mut [u8], at: usize, part: &[u8]) -> usize
     ensures value { result ≡ at + length part.now }
     ensures day_after { take result day.new ≡ take at day.old ++ part.now }
 {
-    let mut i: usize = 0;
-    while i < part.len() {
-        day[at + i] = part[i];
-        i += 1;
-    }
-    at + i
+    let end = at + part.len();
+    day[at..end].copy_from_slice(part);
+    end
 }
 
 // Puts an event and its length encoding, which is at most nine bytes.
@@ -88,73 +79,51 @@ fn put_event(day: &mut [u8], at: usize, event: &[u8]) -> usize
 {
     let end = put(day, at, event);
     let encoding = kangarootwelve::length_encode(event.len() as u64);
-    let bytes = encoding.bytes;
-    let start = encoding.start;
-    put(day, end, &bytes[start..9])
+    put(day, end, encoding.as_slice())
 }
 
-// The clerk's part: the day's message put together in `day`, and one call. Answers its status; where that is 0, `out` holds the digest of
-// the events under the name.
-fn clerk(
-    on: &[u8],
-    level: &[u8],
-    quiet: &[u8],
-    dump: &[u8],
-    off: &[u8],
-    day: &mut [u8],
-    name: &[u8],
-    out: &mut [u8],
-) -> u8
-    requires { length on.now + length level.now + length quiet.now + length dump.now + length off.now + 45 ≤ length day.old }
-    ensures { result ≡ done → out.new ≡ digest (on.now ∷ level.now ∷ quiet.now ∷ dump.now ∷ off.now ∷ []) name.now (length out.old) }
+// The clerk's part: the day's message put together in `day`, which has room for nine bytes of encoding after each event, and one call. Answers as the
+// shift's.
+fn clerk<const N: usize>(events: &[&[u8]], day: &mut [u8], name: &[u8]) -> Result<[u8; N], Refused>
+    requires { sum_by (λ event. length event.now + 9) events.now ≤ length day.old }
+    ensures { IfOk result (λ out. out ≡ digest (map (λ event. event.now) events.now) name.now N) }
 {
-    let mut end = put_event(day, 0, on);
-    end = put_event(day, end, level);
-    end = put_event(day, end, quiet);
-    end = put_event(day, end, dump);
-    end = put_event(day, end, off);
-    Kt128::hash(&day[..end], name, out)
+    let mut end = 0;
+    for event in events {
+        end = put_event(day, end, event);
+    }
+    let mut out = [0u8; N];
+    answered(Kt128::hash(&day[..end], name, &mut out))?;
+    Ok(out)
 }
 
-// Writes the digest after its heading, or the status where that is not 0.
-fn write_line(rt: &impl Print, heading: &str, status: u8, digest: &[u8]) -> io::Result<()> {
-    if status != DONE {
-        return println!(rt; "refused {status}");
+// Writes the digest after its heading, or the refusal.
+fn write_line(rt: &impl Print, heading: &str, digest: Result<[u8; 32], Refused>) -> io::Result<()> {
+    match digest {
+        Ok(bytes) => {
+            let mut line = [b'\n'; 65];
+            let fits = hexadecimal::put(&mut line, 0, &bytes);
+            prove!(fits);
+            print!(rt; "{heading}")?;
+            rt.write_all(&line)
+        }
+        Err(refused) => println!(rt; "{refused}"),
     }
-    let mut line = [b'\n'; 65];
-    if !hexadecimal::put(&mut line, 0, digest) {
-        return Err(io::Error::from(ErrorKind::Other));
-    }
-    print!(rt; "{heading}")?;
-    rt.write_all(&line)
 }
 
 fn main(rt: HostRuntime) -> io::Result<()> {
     let name = b"Hanbeorit station 3";
-    let on = b"06:00 pump 3 on\n";
-    let level = b"06:02 level 3 at 41 cm\n";
-    let quiet = b"";
-    let mut dump = [0u8; 9000];
-    fill(&mut dump);
-    let off = b"22:00 pump 3 off\n";
-
-    let mut shift_digest = [0u8; 32];
-    let shift_status = shift(on, level, quiet, &dump, off, name, &mut shift_digest);
-
+    // The sensor's dump: byte i is i modulo 251.
+    let dump: [u8; 9000] = array::from_fn(|i| (i % 251) as u8);
+    let events: [&[u8]; 5] = [
+        b"06:00 pump 3 on\n",
+        b"06:02 level 3 at 41 cm\n",
+        b"",
+        &dump,
+        b"22:00 pump 3 off\n",
+    ];
     // Room for the five events, 16, 23, 0, 9,000 and 17 bytes, and for nine bytes of encoding after each.
     let mut day = [0u8; 9101];
-    let mut clerk_digest = [0u8; 32];
-    let clerk_status = clerk(
-        on,
-        level,
-        quiet,
-        &dump,
-        off,
-        &mut day,
-        name,
-        &mut clerk_digest,
-    );
-
-    write_line(&rt, "shift ", shift_status, &shift_digest)?;
-    write_line(&rt, "clerk ", clerk_status, &clerk_digest)
+    write_line(&rt, "shift ", shift(&events, name))?;
+    write_line(&rt, "clerk ", clerk(&events, &mut day, name))
 }

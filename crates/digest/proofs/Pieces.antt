@@ -1,21 +1,19 @@
 -- KT128's calls in a row, from the laws of the crate kangarootwelve: a message in whatever pieces, then a finalize with an empty
 -- customization string and one squeeze.
 -- Assumes nothing.
-use mathlib.Core.Path.{◌≡◌, refl, sym, ap, ◌∙◌}
+use mathlib.Core.Path.{◌≡◌, sym, ap, ◌∙◌}
 use mathlib.Core.List.{List, [], ◌++◌}
-use mathlib.Core.Logic.{inl, inr}
+use mathlib.Core.Logic.{◌⊎◌, inl, inr}
 use Prim.Native.Nat.{ℕ, ◌≤◌, ◌<◌, zero-le}
 use native.Mathlib.Decide.{dec_le}
 use native.Mathlib.Omega.{arith}
 use lib.ListN.{length}
 use Rattle.sponge.specs.Transcript.{Call.absorb, Call.finalize, Call.squeeze}
 use Rattle.turboshake.specs.Transcript.{message_limit, output_limit}
-use Rattle.kangarootwelve.specs.Model.{fresh_of, Answer, answer_of, answer128, output_of}
+use Rattle.kangarootwelve.specs.Model.{fresh_of, Answer, answer_of, output_of}
 use Rattle.kangarootwelve.specs.declared.Run.{Run}
-use Rattle.kangarootwelve.specs.declared.Kt128.{Kt128}
-use Rattle.kangarootwelve.specs.declared.Answer128.{Answer128}
 use Rattle.kangarootwelve.proofs.Pieces.{customization-taken, absorbed_run, finalized_run, fresh-absorbed, absorb_piece, absorb_long, finalize-run, squeeze-run}
-use Rattle.digest.specs.Digest.{Left, Absorbs, Digests}
+use Rattle.digest.specs.Digest.{Left, Absorbed, Digests}
 
 positive : 0 < 168
 positive = omega arith
@@ -35,40 +33,51 @@ left_after r m h = h.run ∙ at_once m h.fits
 after_left : (r : Run) (m : List ℕ) → length m ≤ message_limit → r ≡ after m → Left r m
 after_left r m l e = record { fits = l; run = e ∙ sym (at_once m l) }
 
-pub fresh_absorbs : (h : Kt128) → h ≡ record { run = fresh_of 168 32 } → Absorbs (record { hasher = h; status = 0 })
+pub fresh_absorbed : (r : Run) → r ≡ fresh_of 168 32 → Absorbed r
 unfolding after
-fresh_absorbs h e = record { message = []; left = after_left h.run [] zero-le (ap (λ (x : Kt128). x.run) e ∙ fresh-absorbed 168 32 positive); status = inl refl }
+fresh_absorbed r e = record { message = []; left = after_left r [] zero-le (e ∙ fresh-absorbed 168 32 positive) }
 
-pub absorb_absorbs : (h : Kt128) (m p : List ℕ) → Left h.run m → (a : Answer128) → a ≡ answer128 h (absorb p) → Absorbs a
-unfolding after
-absorb_absorbs h m p g a e = by (dec_le (length (m ++ p)) message_limit)
-  where
-    is : answer_of 168 32 h.run (absorb p) ≡ answer_of 168 32 (after m) (absorb p)
-    is = ap (λ (r : Run). answer_of 168 32 r (absorb p)) (left_after h.run m g)
+-- a piece absorbed into the run that a message left: taken or refused
+module _ (r : Run) (p : List ℕ) (held : Absorbed r) (a : Answer) (e : a ≡ answer_of 168 32 r (absorb p)) where
+  answers : ((a.status ≡ 0) × Absorbed a.run) ⊎ (a.status ≡ 2)
+  unfolding after
+  answers = by (dec_le (length (held.message ++ p)) message_limit)
+    where
+      m : List ℕ
+      m = held.message
 
-    by : Dec (length (m ++ p) ≤ message_limit) → Absorbs a
-    by (yes l) =
-        let d = is ∙ absorb_piece 168 32 positive m p l in record {
-          message = m ++ p;
-          left = after_left a.hasher.run (m ++ p) l (ap (λ (x : Answer128). x.hasher.run) e ∙ ap (λ (x : Answer). x.run) d);
-          status = inl (ap (λ (x : Answer128). x.status) e ∙ ap (λ (x : Answer). x.status) d);
-        }
-    by (no l) =
-        let d = is ∙ absorb_long 168 32 positive m p g.fits (omega arith) in record {
-          message = m;
-          left = after_left a.hasher.run m g.fits (ap (λ (x : Answer128). x.hasher.run) e ∙ ap (λ (x : Answer). x.run) d);
-          status = inr (ap (λ (x : Answer128). x.status) e ∙ ap (λ (x : Answer). x.status) d);
-        }
+      is : a ≡ answer_of 168 32 (after m) (absorb p)
+      is = e ∙ ap (λ (x : Run). answer_of 168 32 x (absorb p)) (left_after r m held.left)
+
+      by : Dec (length (m ++ p) ≤ message_limit) → ((a.status ≡ 0) × Absorbed a.run) ⊎ (a.status ≡ 2)
+      by (yes l) =
+          let d = is ∙ absorb_piece 168 32 positive m p l in
+          inl (ap (λ (x : Answer). x.status) d, record { message = m ++ p; left = after_left a.run (m ++ p) l (ap (λ (x : Answer). x.run) d) })
+      by (no l) = inr (ap (λ (x : Answer). x.status) (is ∙ absorb_long 168 32 positive m p held.left.fits (omega arith)))
+
+  taken : ((a.status ≡ 0) × Absorbed a.run) ⊎ (a.status ≡ 2) → a.status ≡ 0 → Absorbed a.run
+  taken (inl t) z = t.1
+  taken (inr t) z = absurd (omega (arith, sym z ∙ t))
+
+  pub taken_absorbed : a.status ≡ 0 → Absorbed a.run
+  taken_absorbed = taken answers
+
+  refused : ((a.status ≡ 0) × Absorbed a.run) ⊎ (a.status ≡ 2) → (a.status ≡ 0 → ⊥) → a.status ≡ 2
+  refused (inl t) n = absurd (n t.0)
+  refused (inr t) n = t
+
+  pub refused_long : (a.status ≡ 0 → ⊥) → a.status ≡ 2
+  refused_long = refused answers
 
 -- ---- the digest: a is what the finalize answers, s and o the squeeze's status and output
 
-pub digests : (h : Kt128) (a : Answer128) (out : List ℕ) (s : ℕ) (o : List ℕ) → length out ≤ output_limit → a ≡ answer128 h (finalize [])
-    → s ≡ (answer_of 168 32 a.hasher.run (squeeze (length out))).status → o ≡ output_of 168 32 a.hasher.run out → Digests h.run (length out) s o
+pub digests : (r : Run) (a : Answer) (out : List ℕ) (s : ℕ) (o : List ℕ) → length out ≤ output_limit → a ≡ answer_of 168 32 r (finalize [])
+    → s ≡ (answer_of 168 32 a.run (squeeze (length out))).status → o ≡ output_of 168 32 a.run out → Digests r (length out) s o
 unfolding after
-digests h a out s o l f t u m g =
+digests r a out s o l f t u m g =
     let taken = customization-taken 0 zero-le in
-    let e : a.hasher.run ≡ finalized_run 168 32 positive m [] =
-    ap (λ (x : Answer128). x.hasher.run) f ∙ ap (λ (r : Run). (answer_of 168 32 r (finalize [])).run) (left_after h.run m g)
+    let e : a.run ≡ finalized_run 168 32 positive m [] =
+    ap (λ (x : Answer). x.run) f ∙ ap (λ (x : Run). (answer_of 168 32 x (finalize [])).run) (left_after r m g)
     ∙ ap (λ (x : Answer). x.run) (finalize-run 168 32 positive m [] g.fits taken) in
     let q = squeeze-run 168 32 positive m [] out g.fits taken l in
-    (t ∙ ap (λ (r : Run). (answer_of 168 32 r (squeeze (length out))).status) e ∙ q.0, u ∙ ap (λ (r : Run). output_of 168 32 r out) e ∙ q.1)
+    (t ∙ ap (λ (x : Run). (answer_of 168 32 x (squeeze (length out))).status) e ∙ q.0, u ∙ ap (λ (x : Run). output_of 168 32 x out) e ∙ q.1)

@@ -3,13 +3,12 @@ ghost use Rattle.std.specs.Prelude.{◌≡◌, false, length};
 ghost use Rattle.sponge.specs.Transcript.{Call};
 ghost use Rattle.functions.specs.Keyed.{start_in, answer_in, written_in, status_in, output_in};
 
-use hasher::Run;
+use hasher::{HasherAnswer, Run};
 use sp800_185::{
-    CShake128, CShake128Answer, CShake256, CShake256Answer, Kmac128, Kmac128Answer, Kmac256,
-    Kmac256Answer, KmacXof128, KmacXof128Answer, KmacXof256, KmacXof256Answer,
+    CShake, CShake128, CShake256, Kmac, Kmac128, Kmac256, KmacXof, KmacXof128, KmacXof256,
 };
 
-#[derive(Clone, Copy)]
+#[derive(Clone, Copy, Debug, PartialEq, Eq)]
 pub enum KeyedFunction {
     CShake128,
     CShake256,
@@ -20,6 +19,7 @@ pub enum KeyedFunction {
 }
 
 // A run of any of them: one of cSHAKE has the bit that says SHAKE, one of KMAC the output length. What a run does not have is false or 0.
+// Kept: a call takes any run, with whatever bit and length (`answer_in`); types that exclude some would ask more of callers.
 #[derive(Clone, Copy)]
 pub struct KeyedRun {
     pub run: Run,
@@ -34,57 +34,47 @@ pub struct KeyedAnswer {
     pub status: u8,
 }
 
-fn answer_of(run: Run, shake: bool, output_length: u64, status: u8) -> KeyedAnswer
-    ensures { result ≡ record { keyed = record { run = run; shake = shake; output_length = output_length }; status = status } }
+// Kept: three conversions, one for each trait; one `From` for all would be three impls that overlap.
+fn of_cshake<C: CShake>(answer: HasherAnswer<C>) -> KeyedAnswer
+    ensures { result ≡ record { keyed = record { run = C.run_of answer.hasher; shake = C.shake_of answer.hasher; output_length = 0 }; status = answer.status } }
 {
     let keyed = KeyedRun {
-        run,
-        shake,
-        output_length,
+        run: answer.hasher.run(),
+        shake: answer.hasher.shake(),
+        output_length: 0,
     };
-    KeyedAnswer { keyed, status }
+    KeyedAnswer {
+        keyed,
+        status: answer.status,
+    }
 }
 
-fn of_cshake128(answer: CShake128Answer) -> KeyedAnswer
-    ensures { result ≡ record { keyed = record { run = answer.hasher.run; shake = answer.hasher.shake; output_length = 0 }; status = answer.status } }
+fn of_kmac<K: Kmac>(answer: HasherAnswer<K>) -> KeyedAnswer
+    ensures { result ≡ record { keyed = record { run = K.run_of answer.hasher; shake = false; output_length = K.output_length_of answer.hasher }; status = answer.status } }
 {
-    let hasher = answer.hasher;
-    answer_of(hasher.run, hasher.shake, 0, answer.status)
+    let keyed = KeyedRun {
+        run: answer.hasher.run(),
+        shake: false,
+        output_length: answer.hasher.output_length(),
+    };
+    KeyedAnswer {
+        keyed,
+        status: answer.status,
+    }
 }
 
-fn of_cshake256(answer: CShake256Answer) -> KeyedAnswer
-    ensures { result ≡ record { keyed = record { run = answer.hasher.run; shake = answer.hasher.shake; output_length = 0 }; status = answer.status } }
+fn of_kmacxof<K: KmacXof>(answer: HasherAnswer<K>) -> KeyedAnswer
+    ensures { result ≡ record { keyed = record { run = K.run_of answer.hasher; shake = false; output_length = 0 }; status = answer.status } }
 {
-    let hasher = answer.hasher;
-    answer_of(hasher.run, hasher.shake, 0, answer.status)
-}
-
-fn of_kmac128(answer: Kmac128Answer) -> KeyedAnswer
-    ensures { result ≡ record { keyed = record { run = answer.hasher.run; shake = false; output_length = answer.hasher.output_length }; status = answer.status } }
-{
-    let hasher = answer.hasher;
-    answer_of(hasher.run, false, hasher.output_length, answer.status)
-}
-
-fn of_kmac256(answer: Kmac256Answer) -> KeyedAnswer
-    ensures { result ≡ record { keyed = record { run = answer.hasher.run; shake = false; output_length = answer.hasher.output_length }; status = answer.status } }
-{
-    let hasher = answer.hasher;
-    answer_of(hasher.run, false, hasher.output_length, answer.status)
-}
-
-fn of_kmacxof128(answer: KmacXof128Answer) -> KeyedAnswer
-    ensures { result ≡ record { keyed = record { run = answer.hasher.run; shake = false; output_length = 0 }; status = answer.status } }
-{
-    let hasher = answer.hasher;
-    answer_of(hasher.run, false, 0, answer.status)
-}
-
-fn of_kmacxof256(answer: KmacXof256Answer) -> KeyedAnswer
-    ensures { result ≡ record { keyed = record { run = answer.hasher.run; shake = false; output_length = 0 }; status = answer.status } }
-{
-    let hasher = answer.hasher;
-    answer_of(hasher.run, false, 0, answer.status)
+    let keyed = KeyedRun {
+        run: answer.hasher.run(),
+        shake: false,
+        output_length: 0,
+    };
+    KeyedAnswer {
+        keyed,
+        status: answer.status,
+    }
 }
 
 // A start: `first` is the function's name of cSHAKE, else the key, and `string` the customization string.
@@ -92,12 +82,12 @@ pub fn start(function: KeyedFunction, first: &[u8], string: &[u8]) -> KeyedAnswe
     ensures { result ≡ start_in function first.now string.now }
 {
     match function {
-        KeyedFunction::CShake128 => of_cshake128(CShake128::start(first, string)),
-        KeyedFunction::CShake256 => of_cshake256(CShake256::start(first, string)),
-        KeyedFunction::Kmac128 => of_kmac128(Kmac128::start(first, string)),
-        KeyedFunction::Kmac256 => of_kmac256(Kmac256::start(first, string)),
-        KeyedFunction::KmacXof128 => of_kmacxof128(KmacXof128::start(first, string)),
-        KeyedFunction::KmacXof256 => of_kmacxof256(KmacXof256::start(first, string)),
+        KeyedFunction::CShake128 => of_cshake(CShake128::start(first, string)),
+        KeyedFunction::CShake256 => of_cshake(CShake256::start(first, string)),
+        KeyedFunction::Kmac128 => of_kmac(Kmac128::start(first, string)),
+        KeyedFunction::Kmac256 => of_kmac(Kmac256::start(first, string)),
+        KeyedFunction::KmacXof128 => of_kmacxof(KmacXof128::start(first, string)),
+        KeyedFunction::KmacXof256 => of_kmacxof(KmacXof256::start(first, string)),
     }
 }
 
@@ -108,12 +98,12 @@ pub fn absorb(function: KeyedFunction, keyed: KeyedRun, piece: &[u8]) -> KeyedAn
     let shake = keyed.shake;
     let output_length = keyed.output_length;
     match function {
-        KeyedFunction::CShake128 => of_cshake128(CShake128 { run, shake }.absorb(piece)),
-        KeyedFunction::CShake256 => of_cshake256(CShake256 { run, shake }.absorb(piece)),
-        KeyedFunction::Kmac128 => of_kmac128(Kmac128 { run, output_length }.absorb(piece)),
-        KeyedFunction::Kmac256 => of_kmac256(Kmac256 { run, output_length }.absorb(piece)),
-        KeyedFunction::KmacXof128 => of_kmacxof128(KmacXof128 { run }.absorb(piece)),
-        KeyedFunction::KmacXof256 => of_kmacxof256(KmacXof256 { run }.absorb(piece)),
+        KeyedFunction::CShake128 => of_cshake(CShake128 { run, shake }.absorb(piece)),
+        KeyedFunction::CShake256 => of_cshake(CShake256 { run, shake }.absorb(piece)),
+        KeyedFunction::Kmac128 => of_kmac(Kmac128 { run, output_length }.absorb(piece)),
+        KeyedFunction::Kmac256 => of_kmac(Kmac256 { run, output_length }.absorb(piece)),
+        KeyedFunction::KmacXof128 => of_kmacxof(KmacXof128 { run }.absorb(piece)),
+        KeyedFunction::KmacXof256 => of_kmacxof(KmacXof256 { run }.absorb(piece)),
     }
 }
 
@@ -125,12 +115,12 @@ pub fn finalize(function: KeyedFunction, keyed: KeyedRun, length: u64) -> KeyedA
     let shake = keyed.shake;
     let output_length = keyed.output_length;
     match function {
-        KeyedFunction::CShake128 => of_cshake128(CShake128 { run, shake }.finalize()),
-        KeyedFunction::CShake256 => of_cshake256(CShake256 { run, shake }.finalize()),
-        KeyedFunction::Kmac128 => of_kmac128(Kmac128 { run, output_length }.finalize(length)),
-        KeyedFunction::Kmac256 => of_kmac256(Kmac256 { run, output_length }.finalize(length)),
-        KeyedFunction::KmacXof128 => of_kmacxof128(KmacXof128 { run }.finalize()),
-        KeyedFunction::KmacXof256 => of_kmacxof256(KmacXof256 { run }.finalize()),
+        KeyedFunction::CShake128 => of_cshake(CShake128 { run, shake }.finalize()),
+        KeyedFunction::CShake256 => of_cshake(CShake256 { run, shake }.finalize()),
+        KeyedFunction::Kmac128 => of_kmac(Kmac128 { run, output_length }.finalize(length)),
+        KeyedFunction::Kmac256 => of_kmac(Kmac256 { run, output_length }.finalize(length)),
+        KeyedFunction::KmacXof128 => of_kmacxof(KmacXof128 { run }.finalize()),
+        KeyedFunction::KmacXof256 => of_kmacxof(KmacXof256 { run }.finalize()),
     }
 }
 
@@ -142,12 +132,12 @@ pub fn squeeze(function: KeyedFunction, keyed: KeyedRun, out: &mut [u8]) -> Keye
     let shake = keyed.shake;
     let output_length = keyed.output_length;
     match function {
-        KeyedFunction::CShake128 => of_cshake128(CShake128 { run, shake }.squeeze(out)),
-        KeyedFunction::CShake256 => of_cshake256(CShake256 { run, shake }.squeeze(out)),
-        KeyedFunction::Kmac128 => of_kmac128(Kmac128 { run, output_length }.squeeze(out)),
-        KeyedFunction::Kmac256 => of_kmac256(Kmac256 { run, output_length }.squeeze(out)),
-        KeyedFunction::KmacXof128 => of_kmacxof128(KmacXof128 { run }.squeeze(out)),
-        KeyedFunction::KmacXof256 => of_kmacxof256(KmacXof256 { run }.squeeze(out)),
+        KeyedFunction::CShake128 => of_cshake(CShake128 { run, shake }.squeeze(out)),
+        KeyedFunction::CShake256 => of_cshake(CShake256 { run, shake }.squeeze(out)),
+        KeyedFunction::Kmac128 => of_kmac(Kmac128 { run, output_length }.squeeze(out)),
+        KeyedFunction::Kmac256 => of_kmac(Kmac256 { run, output_length }.squeeze(out)),
+        KeyedFunction::KmacXof128 => of_kmacxof(KmacXof128 { run }.squeeze(out)),
+        KeyedFunction::KmacXof256 => of_kmacxof(KmacXof256 { run }.squeeze(out)),
     }
 }
 

@@ -5,9 +5,10 @@ ghost use Rattle.sponge.specs.Transcript.{Call};
 ghost use Rattle.kangarootwelve.specs.Model.{fresh_of, states_after, output_of, hash_status, hash_output, abreast_status, abreast_output};
 ghost use Rattle.functions.specs.Kt.{rate_of, chaining_of, answer_in, abreast_in};
 
-use kangarootwelve::{Answer128, Answer256, Kt128, Kt256, Run};
+use hasher::HasherAnswer;
+use kangarootwelve::{Kt, Kt128, Kt256, Run};
 
-#[derive(Clone, Copy)]
+#[derive(Clone, Copy, Debug, PartialEq, Eq)]
 pub enum KtFunction {
     Kt128,
     Kt256,
@@ -20,25 +21,14 @@ pub struct KtAnswer {
     pub status: u8,
 }
 
-fn answer_of_128(answer: Answer128) -> KtAnswer
-    ensures { result ≡ record { run = answer.hasher.run; status = answer.status } }
-{
-    let hasher = answer.hasher;
-    let run = hasher.run;
-    KtAnswer {
-        run,
-        status: answer.status,
-    }
-}
+impl<K: Kt> From<HasherAnswer<K>> for KtAnswer {
+    ghost from_gives = { λ answer kt. kt ≡ record { run = K.run_of answer.hasher; status = answer.status } };
 
-fn answer_of_256(answer: Answer256) -> KtAnswer
-    ensures { result ≡ record { run = answer.hasher.run; status = answer.status } }
-{
-    let hasher = answer.hasher;
-    let run = hasher.run;
-    KtAnswer {
-        run,
-        status: answer.status,
+    fn from(answer: HasherAnswer<K>) -> KtAnswer {
+        KtAnswer {
+            run: answer.hasher.run(),
+            status: answer.status,
+        }
     }
 }
 
@@ -55,8 +45,8 @@ pub fn absorb(function: KtFunction, run: Run, piece: &[u8]) -> KtAnswer
     ensures { result ≡ answer_in function run (Call.absorb piece.now) }
 {
     match function {
-        KtFunction::Kt128 => answer_of_128(Kt128 { run }.absorb(piece)),
-        KtFunction::Kt256 => answer_of_256(Kt256 { run }.absorb(piece)),
+        KtFunction::Kt128 => Kt128 { run }.absorb(piece).into(),
+        KtFunction::Kt256 => Kt256 { run }.absorb(piece).into(),
     }
 }
 
@@ -66,8 +56,8 @@ pub fn absorb_abreast(function: KtFunction, run: Run, piece: &[u8], states: &mut
     ensures states_after { states.new ≡ states_after result.status states.old }
 {
     match function {
-        KtFunction::Kt128 => answer_of_128(Kt128 { run }.absorb_abreast(piece, states)),
-        KtFunction::Kt256 => answer_of_256(Kt256 { run }.absorb_abreast(piece, states)),
+        KtFunction::Kt128 => Kt128 { run }.absorb_abreast(piece, states).into(),
+        KtFunction::Kt256 => Kt256 { run }.absorb_abreast(piece, states).into(),
     }
 }
 
@@ -76,8 +66,8 @@ pub fn customize(function: KtFunction, run: Run, piece: &[u8]) -> KtAnswer
     ensures { result ≡ answer_in function run (Call.customize piece.now) }
 {
     match function {
-        KtFunction::Kt128 => answer_of_128(Kt128 { run }.customize(piece)),
-        KtFunction::Kt256 => answer_of_256(Kt256 { run }.customize(piece)),
+        KtFunction::Kt128 => Kt128 { run }.customize(piece).into(),
+        KtFunction::Kt256 => Kt256 { run }.customize(piece).into(),
     }
 }
 
@@ -86,8 +76,8 @@ pub fn finalize(function: KtFunction, run: Run, customization: &[u8]) -> KtAnswe
     ensures { result ≡ answer_in function run (Call.finalize customization.now) }
 {
     match function {
-        KtFunction::Kt128 => answer_of_128(Kt128 { run }.finalize(customization)),
-        KtFunction::Kt256 => answer_of_256(Kt256 { run }.finalize(customization)),
+        KtFunction::Kt128 => Kt128 { run }.finalize(customization).into(),
+        KtFunction::Kt256 => Kt256 { run }.finalize(customization).into(),
     }
 }
 
@@ -96,8 +86,8 @@ pub fn finish(function: KtFunction, run: Run) -> KtAnswer
     ensures { result ≡ answer_in function run Call.finish }
 {
     match function {
-        KtFunction::Kt128 => answer_of_128(Kt128 { run }.finish()),
-        KtFunction::Kt256 => answer_of_256(Kt256 { run }.finish()),
+        KtFunction::Kt128 => Kt128 { run }.finish().into(),
+        KtFunction::Kt256 => Kt256 { run }.finish().into(),
     }
 }
 
@@ -106,8 +96,8 @@ pub fn squeeze(function: KtFunction, run: Run, out: &mut [u8]) -> KtAnswer
     ensures out_after { out.new ≡ output_of (rate_of function) (chaining_of function) run out.old }
 {
     match function {
-        KtFunction::Kt128 => answer_of_128(Kt128 { run }.squeeze(out)),
-        KtFunction::Kt256 => answer_of_256(Kt256 { run }.squeeze(out)),
+        KtFunction::Kt128 => Kt128 { run }.squeeze(out).into(),
+        KtFunction::Kt256 => Kt256 { run }.squeeze(out).into(),
     }
 }
 

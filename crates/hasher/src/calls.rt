@@ -8,7 +8,7 @@ ghost use Rattle.keccak.specs.Permutation.{rounds_status};
 ghost use Rattle.hasher.specs.Function.{message_limit, long_output};
 ghost use Rattle.hasher.specs.Model.{reachable, numbers, run_with, answered, perform_of, written_of, hash_status, hash_output};
 
-use crate::{MESSAGE_LIMIT, Moved, Numbers, Progress};
+use crate::{MESSAGE_LIMIT, Moved, Numbers, Progress, Refusal};
 use sponge::status;
 
 const ABSORBING: u8 = 0;
@@ -69,14 +69,14 @@ fn hash_status(limit: u32, message: u64, refusal: u8, asked: u64) -> u8
 }
 
 impl Taken {
-    // These numbers, or the status with which they are refused.
-    pub(crate) fn of(numbers: Numbers) -> Result<Taken, u8>
+    // These numbers, or the refusal of them.
+    pub(crate) fn of(numbers: Numbers) -> Result<Taken, Refusal>
         ensures taken { IfOk result (λ taken. (record { rate = taken.rate; rounds = taken.rounds; limit = taken.limit } ≡ numbers) × (call_status numbers.rounds numbers.rate 0 ≡ 0)) }
-        ensures refused { IfErr result (λ number. (number ≡ call_status numbers.rounds numbers.rate 0) × (number ≡ 0 → ⊥)) }
+        ensures refused { IfErr result (λ refusal. (refusal.status ≡ call_status numbers.rounds numbers.rate 0) × (refusal.status ≡ 0 → ⊥)) }
     {
         let number = sponge::call_status(numbers.rounds, numbers.rate, 0);
         if number != status::DONE {
-            return Err(number);
+            return Err(Refusal { status: number });
         }
         let Numbers {
             rate,

@@ -12,7 +12,7 @@ pub fn absorb(numbers: Numbers, lanes: &mut [u64; 25], at: Progress, piece: &[u8
 {
     match Taken::of(numbers) {
         Ok(taken) => taken.absorb(lanes, at, piece),
-        Err(number) => refused(number, at),
+        Err(refusal) => refused(refusal.status, at),
     }
 }
 
@@ -28,7 +28,7 @@ pub fn finalize(
 {
     match Taken::of(numbers) {
         Ok(taken) => taken.finalize(lanes, at, refusal, last),
-        Err(number) => refused(number, at),
+        Err(of_numbers) => refused(of_numbers.status, at),
     }
 }
 
@@ -39,6 +39,6 @@ pub fn squeeze(numbers: Numbers, lanes: &mut [u64; 25], at: Progress, out: &mut 
 {
     match Taken::of(numbers) {
         Ok(taken) => taken.squeeze(lanes, at, out),
-        Err(number) => refused(number, at),
+        Err(refusal) => refused(refusal.status, at),
     }
 }

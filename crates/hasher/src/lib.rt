@@ -158,6 +158,6 @@ pub fn hash(numbers: Numbers, message: &[u8], refusal: u8, last: u8, out: &mut [
 {
     match Taken::of(numbers) {
         Ok(taken) => taken.hash(message, refusal, last, out),
-        Err(number) => number,
+        Err(of_numbers) => of_numbers.status,
     }
 }

@@ -1,3 +1,4 @@
 -- Crates above use `Digits`.
 pub mod Digits
+mod Shown
 mod Stores

@@ -1,15 +1,13 @@
 -- What `put` asks: the digits stored one after the other are the text that its contract names.
 -- Assumes nothing.
-use mathlib.Core.Path.{◌≡◌, refl, sym, ◌∙◌}
+use mathlib.Core.Path.{◌≡◌, refl}
 use mathlib.Core.List.{List, [], ◌∷◌}
-use Prim.Native.Nat.{ℕ, suc, ◌+◌, ◌-◌, ◌*◌, ◌/◌, ◌%◌, ◌≤◌, ◌<◌}
-use native.Mathlib.Decide.{dec_le}
+use Prim.Native.Nat.{ℕ, ◌+◌, ◌*◌, ◌≤◌, ◌<◌}
 use native.Mathlib.Omega.{arith}
-use lib.Dec.{leb}
-use lib.ListN.{length, drop, get_or, set, drop_of_length-le}
-use lib.Seq.{sets, sets-eq, drop-cons}
+use lib.ListN.{length, drop, drop_of_length-le}
+use lib.Seq.{sets, sets-eq}
 use borrow.Author.Tests.{le-leb, lt-leb}
-use Rattle.hexadecimal.specs.Hex.{digit, hex_of, with_hex}
+use Rattle.hexadecimal.specs.Hex.{hex_of, with_hex}
 
 length_hex : (bytes : List ℕ) → length (hex_of bytes) ≡ 2 * length bytes
 length_hex [] = refl
@@ -18,15 +16,6 @@ length_hex (b ∷ bs) = let n : length (hex_of bs) ≡ 2 * length bs = length_he
 -- the text once the bytes from the i-th on are put too
 abbrev pub rest : List ℕ → ℕ → List ℕ → ℕ → List ℕ
 rest text at bytes i = sets text (at + 2 * i) (hex_of (drop i bytes))
-
--- a turn puts one byte
-pub turn : (text : List ℕ) (at : ℕ) (bytes : List ℕ) (i : ℕ) → i < length bytes
-    → rest (set (set text (at + 2 * i) (digit (get_or bytes i 0 / 16))) (at + 2 * i + 1) (digit (get_or bytes i 0 % 16))) at bytes (i + 1) ≡ rest text at bytes i
-turn text at bytes i h =
-    let p : at + 2 * i + 1 ≡ suc (at + 2 * i) = omega arith in
-    let q : at + 2 * (i + 1) ≡ suc (suc (at + 2 * i)) = omega arith in
-    let j : i + 1 ≡ suc i = omega arith in
-    rw (p, q, j, drop-cons bytes i 0 h)
 
 -- after the last turn nothing is left to put
 pub put-end : (text : List ℕ) (at : ℕ) (bytes : List ℕ) (i : ℕ) → length bytes ≤ i → rest text at bytes i ≡ text
@@ -45,11 +34,3 @@ put_all text at bytes h =
 pub put-none : (text : List ℕ) (at : ℕ) (bytes : List ℕ) → length text < at + 2 * length bytes → text ≡ with_hex text at bytes
 unfolding with_hex
 put-none text at bytes h = rw (lt-leb (at + 2 * length bytes) (length text) h)
-
--- n bytes have room where half of it holds n
-pub room : (size at n : ℕ) → at ≤ size → leb n ((size - at) / 2) ≡ leb (at + 2 * n) size
-room size at n h = by (dec_le n ((size - at) / 2))
-  where
-    by : Dec (n ≤ (size - at) / 2) → leb n ((size - at) / 2) ≡ leb (at + 2 * n) size
-    by (yes l) = le-leb n ((size - at) / 2) l ∙ sym (le-leb (at + 2 * n) size (omega arith))
-    by (no l) = lt-leb n ((size - at) / 2) (omega arith) ∙ sym (lt-leb (at + 2 * n) size (omega arith))

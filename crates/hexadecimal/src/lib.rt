@@ -1,9 +1,13 @@
 // Bytes as text: two lower-case hex digits each.
 #![tactic(auto)]
 
+mod display;
+
 ghost use Rattle.std.specs.Prelude.{◌≡◌, ◌+◌, ◌/◌, ◌%◌, ◌<◌, length, set};
 ghost use Rattle.hexadecimal.specs.Hex.{fits, with_hex};
 ghost use Rattle.hexadecimal.specs.Hex.{digit as Hex·digit};
+
+pub use display::DigitsOf;
 
 fn digit(d: u8) -> u8
     requires { d < 16 }
@@ -25,10 +29,7 @@ fn put_byte(text: &mut [u8], at: usize, byte: u8)
 fn has_room(size: usize, at: usize, n: usize) -> bool
     ensures { result ≡ fits size at n }
 {
-    if size < at {
-        return false;
-    }
-    n <= (size - at) / 2
+    at <= size && n <= (size - at) / 2
 }
 
 // Puts the lower-case digits of the bytes into the text from `at` on; where they do not fit, puts nothing and answers false.
@@ -39,10 +40,8 @@ pub fn put(text: &mut [u8], at: usize, bytes: &[u8]) -> bool
     if !has_room(text.len(), at, bytes.len()) {
         return false;
     }
-    let mut i: usize = 0;
-    while i < bytes.len() {
-        put_byte(text, at + 2 * i, bytes[i]);
-        i += 1;
+    for (i, byte) in bytes.iter().enumerate() {
+        put_byte(text, at + 2 * i, *byte);
     }
     true
 }

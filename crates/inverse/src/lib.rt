@@ -17,9 +17,7 @@ pub fn unpermute_in_place(lanes: &mut [u64; 25], rounds: usize) -> u8
     }
     let mut a = *lanes;
     let constants = keccak::ROUND_CONSTANTS;
-    let mut left: usize = rounds;
-    while left > 0 {
-        left -= 1;
+    for left in (0..rounds).rev() {
         let b = unround::unround(a, constants[24 - rounds + left]);
         a = b;
     }
@@ -27,7 +25,7 @@ pub fn unpermute_in_place(lanes: &mut [u64; 25], rounds: usize) -> u8
     keccak::DONE
 }
 
-// What `unpermute` answers: its status, and the lanes.
+// What `unpermute` answers: its status, and the lanes. Kept: a public answer, which refuses by number.
 #[derive(Clone, Copy)]
 pub struct Unpermuted {
     pub lanes: [u64; 25],

@@ -29,10 +29,8 @@ fn unchi(a: [u64; 25]) -> [u64; 25]
     ensures { result ≡ spec.unchi a }
 {
     let mut b = a;
-    let mut i: usize = 0;
-    while i < 25 {
+    for i in 0..25 {
         b[i] = unchi_lane(&a, i % 5, i / 5);
-        i += 1;
     }
     b
 }
@@ -50,10 +48,8 @@ fn unrho_unpi(a: [u64; 25]) -> [u64; 25]
     ensures { result ≡ spec.unrho (spec.unpi a) }
 {
     let mut b = a;
-    let mut i: usize = 0;
-    while i < 25 {
+    for i in 0..25 {
         b[i] = unrho_unpi_lane(&a, i % 5, i / 5);
-        i += 1;
     }
     b
 }
@@ -129,10 +125,8 @@ fn untheta(a: [u64; 25]) -> [u64; 25]
     let c = parities(&a);
     let p = untheta_parities(c);
     let mut b = a;
-    let mut i: usize = 0;
-    while i < 25 {
+    for i in 0..25 {
         b[i] = untheta_lane(&a, &p, i % 5, i / 5);
-        i += 1;
     }
     b
 }

@@ -15,7 +15,6 @@ use Rattle.kangarootwelve.specs.Transcript as kt-transcript
 use Rattle.kangarootwelve.specs.Model as kt
 use Rattle.kangarootwelve.specs.Model.{Nodes, machine, seen, held}
 use Rattle.kangarootwelve.specs.declared.Run.{Run}
-use Rattle.kangarootwelve.specs.declared.Answer128.{Answer128}
 use Rattle.kangarootwelve.proofs.Laws as kt-laws
 use Rattle.kangarootwelve.proofs.Answers.{fresh_is, answer_is, output_is, piece-taken}
 use Rattle.journal.specs.Published.{framed}
@@ -41,10 +40,6 @@ event_8 n h = rw (lt-leb n event_limit h)
 pub fresh_day_lem : ◌≡◌ {A = Journal} (record { run = kt.fresh_of 168 32 }) fresh_day
 unfolding fresh_day
 fresh_day_lem = ap (λ (r : Run). record { run = r }) (fresh_is 168 32)
-
--- the code's struct of an answer of KT128 as a day's
-abbrev pub day_answer : Answer128 → Answer
-day_answer a = record { journal = record { run = a.hasher.run }; status = a.status }
 
 module _ (r : Run) where
   -- ---- a call of a day by one of KT128

@@ -9,7 +9,8 @@ ghost use Rattle.kangarootwelve.specs.Model as kt;
 ghost use Rattle.journal.specs.Model.{fresh_day, answer_of, output_of};
 ghost use Rattle.journal.specs.Inside.{as_day};
 
-use kangarootwelve::{Answer128, Kt128, Run};
+use hasher::HasherAnswer;
+use kangarootwelve::{Kt, Kt128, Run};
 use sponge::status;
 
 // The most bytes of an event.
@@ -28,15 +29,16 @@ pub struct Answer {
     pub status: u8,
 }
 
-fn answer_of(answer: Answer128) -> Answer
-    ensures { result ≡ record { journal = record { run = answer.hasher.run }; status = answer.status } }
-{
-    let hasher = answer.hasher;
-    let run = hasher.run;
-    let journal = Journal { run };
-    Answer {
-        journal,
-        status: answer.status,
+impl From<HasherAnswer<Kt128>> for Answer {
+    ghost from_gives = { λ answer day. day ≡ record { journal = record { run = answer.hasher.run }; status = answer.status } };
+
+    fn from(answer: HasherAnswer<Kt128>) -> Answer {
+        Answer {
+            journal: Journal {
+                run: answer.hasher.run,
+            },
+            status: answer.status,
+        }
     }
 }
 
@@ -54,8 +56,10 @@ fn long_status(tried: u8) -> u8
 fn refused(given: Run, status: u8) -> Answer
     ensures { result ≡ record { journal = record { run = given }; status = status } }
 {
-    let journal = Journal { run: given };
-    Answer { journal, status }
+    Answer {
+        journal: Journal { run: given },
+        status,
+    }
 }
 
 // Refuses a long event. What the run says of itself is asked with an empty piece, whose answer is not kept.
@@ -74,13 +78,11 @@ fn absorb_both(given: Run, first: &[u8], second: &[u8]) -> Answer
     if one.status != status::DONE {
         return refused(given, one.status);
     }
-    let hasher = one.hasher;
-    let between = hasher.run;
-    let both = Kt128 { run: between }.absorb(second);
+    let both = one.hasher.absorb(second);
     if both.status != status::DONE {
         return refused(given, both.status);
     }
-    answer_of(both)
+    both.into()
 }
 
 impl Journal {
@@ -88,47 +90,41 @@ impl Journal {
     pub fn fresh() -> Self
         ensures { result ≡ fresh_day }
     {
-        let hasher = Kt128::fresh();
-        let run = hasher.run;
-        Journal { run }
+        Journal {
+            run: Kt128::fresh().run,
+        }
     }
 
     // Appends an event with its length encoding. One that is too long, or does not fit with its encoding, is not taken at all.
     pub fn append(self, event: &[u8]) -> Answer
         ensures { result ≡ answer_of self (Call.absorb event.now) }
     {
-        let run = self.run;
         if EVENT_LIMIT < event.len() as u64 {
-            return refuse_event(run, &event[0..0]);
+            return refuse_event(self.run, &event[0..0]);
         }
         let encoding = kangarootwelve::length_encode(event.len() as u64);
-        let bytes = encoding.bytes;
-        let start = encoding.start;
-        absorb_both(run, event, &bytes[start..9])
+        absorb_both(self.run, event, encoding.as_slice())
     }
 
     // Absorbs a piece of the station's name. The first one, even an empty one, ends the events.
     pub fn customize(self, piece: &[u8]) -> Answer
         ensures { result ≡ answer_of self (Call.customize piece.now) }
     {
-        let run = self.run;
-        answer_of(Kt128 { run }.customize(piece))
+        Kt128 { run: self.run }.customize(piece).into()
     }
 
     // Ends the day under the station's whole name.
     pub fn finalize(self, name: &[u8]) -> Answer
         ensures { result ≡ answer_of self (Call.finalize name.now) }
     {
-        let run = self.run;
-        answer_of(Kt128 { run }.finalize(name))
+        Kt128 { run: self.run }.finalize(name).into()
     }
 
     // Ends the day under the name that was absorbed in pieces.
     pub fn finish(self) -> Answer
         ensures { result ≡ answer_of self Call.finish }
     {
-        let run = self.run;
-        answer_of(Kt128 { run }.finish())
+        Kt128 { run: self.run }.finish().into()
     }
 
     // Squeezes as many bytes of the day's digest as `out` holds.
@@ -136,7 +132,6 @@ impl Journal {
         ensures value { result ≡ answer_of self (Call.squeeze (length out.old)) }
         ensures out_after { out.new ≡ output_of self out.old }
     {
-        let run = self.run;
-        answer_of(Kt128 { run }.squeeze(out))
+        Kt128 { run: self.run }.squeeze(out).into()
     }
 }

@@ -53,10 +53,6 @@ pub encoded : (x i : ℕ) (s : List ℕ) → i ≤ 8 → length s ≡ 9 → take
 unfolding length_encode
 encoded x i s h l e = number_behind 8 i s (digits x x) h l e
 
--- the part from there to the array's end
-pub encoded_part : (i x : ℕ) (s : List ℕ) → length s ≡ 9 → drop i s ≡ length_encode x → take (9 - i) (drop i s) ≡ length_encode x
-encoded_part i x s l e = take_all (9 - i) (drop i s) (rw (length-drop, l) (le_refl (9 - i))) ∙ e
-
 -- ---- the public call: the encoding at the end of nine bytes, after zeros
 
 pub encoding_short : (x k : ℕ) → x < 256 ^ k → length (length_encode x) ≤ suc k
@@ -84,6 +80,10 @@ module _ (x : ℕ) (a : LengthEncoding) (e : a ≡ encoding_of x) where
   pub encoding_start : a.start ≤ 9
   unfolding encoding_of
   encoding_start = rw e (omega arith)
+
+  pub encoding_slice : (s : List ℕ) → s ≡ drop a.start a.bytes → s ≡ length_encode x
+  unfolding encoding_of
+  encoding_slice s w = let k : ℕ = 9 - length (length_encode x) in w ∙ rw e (drop_at (replicate k 0) (length_encode x) k (length-replicate k 0))
 
   module _ (h : x < 256 ^ 8) where
     pub encoding_length : length a.bytes ≡ 9

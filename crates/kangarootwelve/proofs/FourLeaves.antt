@@ -20,7 +20,7 @@ use Rattle.kangarootwelve.specs.Tree.{Tree, put_byte, end_chunk, absorb_tree}
 use Rattle.kangarootwelve.specs.Inside.{ended_chunk, ended_chunks}
 use Rattle.kangarootwelve.specs.Leaves.{chunk_at, values_of}
 use Rattle.kangarootwelve.proofs.Published.{chunk_is, chunk_pos, puts_is}
-use Rattle.kangarootwelve.proofs.Nodes.{fresh_is, part_length}
+use Rattle.kangarootwelve.proofs.Nodes.{fresh_is}
 use Rattle.kangarootwelve.proofs.OneGo.{chunks_tree}
 
 -- all bytes from byte j on, as they are lent
@@ -108,22 +108,19 @@ module _ (rate chaining : ℕ) (pos : 0 < rate) (most : rate ≤ 200) where
       ∙ ap (λ (t : At Tree). absorb_tree rate chaining t s) (sym (at_leaf f leaf p (suc i) q el ep eq))
 
   -- the loop lends the four chunks from byte j on
-  pub closed_row : (f g : Sponge) (leaf : List ℕ) (p i q : ℕ) (v s : List ℕ) (j : ℕ) → leaf ≡ replicate 25 0 → p ≡ 0 → 0 < i → q ≡ 0 → length v ≡ chaining → j + 32768 < length s
-      → g ≡ absorb_bytes permuted rate f (values_of rate (length v) 4 (take (j + 32768 - j) (drop j s)))
-      → ◌≡◌ {A = At Tree} (absorb_tree rate chaining (record { value = record { final = g; leaf = record { value = leaf; position = 0 }; index = i + 4 }; position = 0 }) (drop (j + 32768) s))
-      (absorb_tree rate chaining (record { value = record { final = f; leaf = record { value = leaf; position = p }; index = i }; position = q }) (drop j s))
-  closed_row f g leaf p zero q v s j el ep ei eq ev l eg = absurd (omega arith)
-  closed_row f g leaf p (suc i) q v s j el ep ei eq ev l eg =
-      let m : List ℕ = take (j + 32768 - j) (drop j s) in
-      let rest : List ℕ = drop (j + 32768) s in
-      let k : j + 32768 - j ≡ 32768 = omega arith in
-      let whole : m ++ rest ≡ drop j s =
-      ap₂ (λ (n : ℕ) (r : List ℕ). take n (drop j s) ++ r) k (sym (drop-drop 32768 j s)) ∙ take-append-drop 32768 (drop j s) in
+  pub closed_row : (f g : Sponge) (leaf : List ℕ) (p i q : ℕ) (v s : List ℕ) → leaf ≡ replicate 25 0 → p ≡ 0 → 0 < i → q ≡ 0 → length v ≡ chaining → 32768 < length s
+      → g ≡ absorb_bytes permuted rate f (values_of rate (length v) 4 (take 32768 s))
+      → ◌≡◌ {A = At Tree} (absorb_tree rate chaining (record { value = record { final = g; leaf = record { value = leaf; position = 0 }; index = i + 4 }; position = 0 }) (drop 32768 s))
+      (absorb_tree rate chaining (record { value = record { final = f; leaf = record { value = leaf; position = p }; index = i }; position = q }) s)
+  closed_row f g leaf p zero q v s el ep ei eq ev l eg = absurd (omega arith)
+  closed_row f g leaf p (suc i) q v s el ep ei eq ev l eg =
+      let m : List ℕ = take 32768 s in
+      let rest : List ℕ = drop 32768 s in
       let more : 0 < length rest = rw length-drop (omega arith) in
       ap (λ (t : At Tree). absorb_tree rate chaining t rest) (at_leaf g leaf 0 (suc i + 4) 0 el refl refl)
-      ∙ closed_leaf f g i m rest (part_length rate pos s j 32768 (omega arith)) more (eg ∙ ap (λ (n : ℕ). absorb_bytes permuted rate f (values_of rate n 4 m)) ev)
-      ∙ ap (absorb_tree rate chaining (record { value = record { final = f; leaf = fresh; index = suc i }; position = 0 })) whole
-      ∙ ap (λ (t : At Tree). absorb_tree rate chaining t (drop j s)) (sym (at_leaf f leaf p (suc i) q el ep eq))
+      ∙ closed_leaf f g i m rest (length-take-le 32768 s (omega arith)) more (eg ∙ ap (λ (n : ℕ). absorb_bytes permuted rate f (values_of rate n 4 m)) ev)
+      ∙ ap (absorb_tree rate chaining (record { value = record { final = f; leaf = fresh; index = suc i }; position = 0 })) (take-append-drop 32768 s)
+      ∙ ap (λ (t : At Tree). absorb_tree rate chaining t s) (sym (at_leaf f leaf p (suc i) q el ep eq))
 
   -- ---- what comes before the first leaf: u is t once its chunk is full, and w is u once that chunk is ended
 

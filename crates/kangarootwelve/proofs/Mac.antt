@@ -166,18 +166,6 @@ gathered d x y = by (ℕ_discrete d 0) (ℕ_discrete x y)
     by (yes e) (no f) = ne_eqb _ 0 (λ z. f (equal x y (none d (bit_xor x y) z).1)) ∙ rw (eq-eqb d 0 e, ne_eqb x y f)
     by (yes e) (yes f) = rw (e, f, xor_self, eq-eqb y y refl)
 
-module _ (a b : List ℕ) (l : length a ≡ length b) (i d : ℕ) where
-  -- the loop: bytes 0 to i - 1 are gathered in d
-  pub same_step : (n : ℕ) → i < length a → eqb n 0 ≡ (eqb d 0 && eqb (get_or a i 0) (get_or b i 0))
-      → (eqb n 0 && same_bytes (drop (suc i) a) (drop (suc i) b)) ≡ (eqb d 0 && same_bytes (drop i a) (drop i b))
-  same_step n h e =
-      ap (λ (t : Bool). t && same_bytes (drop (suc i) a) (drop (suc i) b)) e
-      ∙ and_assoc (eqb d 0) (eqb (get_or a i 0) (get_or b i 0)) (same_bytes (drop (suc i) a) (drop (suc i) b))
-      ∙ rw (drop-cons a i 0 h, drop-cons b i 0 (omega arith))
-
-  pub same_done : i ≡ length a → (eqb d 0 && same_bytes (drop i a) (drop i b)) ≡ eqb d 0
-  same_done h = rw (drop_of_length-le a {i = i} (omega arith), drop_of_length-le b {i = i} (omega arith)) (and-true (eqb d 0))
-
 -- v is what the tag's call wrote into a lent tag of the length of w, b the comparison with the presented one
 pub tag_row : (rate chaining inner : ℕ) (key m c t w v : List ℕ) (b : Bool) → length w ≡ length t → mac_status (length key) (length m) (length c) (length t) ≡ 0
     → v ≡ mac_output rate chaining inner key m c w → b ≡ same_bytes v t → b ≡ same_bytes (hopmac rate chaining inner key m c (length t)) t

@@ -3,12 +3,12 @@
 use mathlib.Core.Path.{◌≡◌, refl, sym, ap, ◌∙◌, subst}
 use mathlib.Core.List.{List, ◌++◌}
 use Prim.Native.Nat.{ℕ, zero, suc, ◌+◌, ◌-◌, ◌≤◌, ◌<◌, zero-le}
-use native.Mathlib.Nat.{mod-lt, mod-eq_of_lt, le_refl, sub-zero}
+use native.Mathlib.Nat.{mod-lt, mod-eq_of_lt, le_refl, sub-zero, zero-add}
 use native.Mathlib.Numerals.{add-one}
 use native.Mathlib.Decide.{ℕ_discrete}
 use native.Mathlib.Omega.{arith}
 use borrow.Author.Tests.{eq-eqb, ne_eqb}
-use lib.ListN.{length, take, drop, replicate, length-drop}
+use lib.ListN.{length, take, drop, replicate}
 use lib.Seq.{length-take-le}
 use Rattle.keccak.specs.Permutation.{permuted}
 use Rattle.sponge.specs.Published.{xor_byte}
@@ -63,6 +63,9 @@ module _ (rate : ℕ) (pos : 0 < rate) where
         by (yes e) = rw (eq-eqb t.position chunk e) record { fits = end_fits t h; inside = chunk_pos; counted = le_refl _ }
         by (no ne) = rw (ne_eqb t.position chunk ne) record { fits = h; inside = omega (arith, h.position-fits, ne); counted = omega arith }
 
+    pub next_of : (t u : At Tree) → u ≡ ready (end_chunk rate chaining) chunk t → Fits rate t → Next t u
+    next_of t u e h = subst (Next t) (sym e) (next_fits t h)
+
   put-fits : (t : At Tree) (p : List ℕ) → Fits rate t → t.position + length p ≤ chunk
       → Fits rate (record { value = put_to rate t.value.index t.value.final t.value.leaf p; position = t.position + length p })
   put-fits t p h g = by t.value.index t.value.final t.value.leaf h.final-fits h.leaf-fits
@@ -71,35 +74,28 @@ module _ (rate : ℕ) (pos : 0 < rate) where
       by zero f l a b = record { final-fits = absorb_in f p a; leaf-fits = b; position-fits = g }
       by (suc i) f l a b = record { final-fits = a; leaf-fits = absorb_in l p b; position-fits = g }
 
-  -- the part that the loop lends has k bytes
-  pub part_length : (p : List ℕ) (i k : ℕ) → i + k ≤ length p → length (take (i + k - i) (drop i p)) ≡ k
-  part_length p i k h =
-      let e : i + k - i ≡ k = omega arith in
-      rw e (length-take-le k (drop i p) (rw length-drop (omega arith)))
+  -- the part that the loop takes off has k bytes
+  pub part_is : (u : At Tree) (p m : List ℕ) (k : ℕ) → m ≡ take k p → k ≤ length p
+      → ◌≡◌ {A = At Tree} (record { value = put_to rate u.value.index u.value.final u.value.leaf m; position = u.position + length m })
+      (record { value = put_to rate u.value.index u.value.final u.value.leaf (take k p); position = u.position + k })
+  part_is u p m k e h = rw (e, length-take-le k p h)
 
-  pub part_is : (u : At Tree) (p : List ℕ) (i k : ℕ) → i + k ≤ length p
-      → ◌≡◌ {A = At Tree} (record { value = put_to rate u.value.index u.value.final u.value.leaf (take (i + k - i) (drop i p)); position = u.position + length (take (i + k - i) (drop i p)) })
-      (record { value = put_to rate u.value.index u.value.final u.value.leaf (take k (drop i p)); position = u.position + k })
-  part_is u p i k h =
-      let e : i + k - i ≡ k = omega arith in
-      rw (part_length p i k h, e)
+  pub part_fits : (u : At Tree) (p : List ℕ) (k : ℕ) → Fits rate u → u.position + k ≤ chunk → k ≤ length p
+      → Fits rate (record { value = put_to rate u.value.index u.value.final u.value.leaf (take k p); position = u.position + k })
+  part_fits u p k h g l =
+      let n : length (take k p) ≡ k = length-take-le k p l in
+      subst (λ (j : ℕ). Fits rate (record { value = put_to rate u.value.index u.value.final u.value.leaf (take k p); position = u.position + j })) n
+      (put-fits u (take k p) h (omega arith))
 
-  pub part_fits : (u : At Tree) (p : List ℕ) (i k : ℕ) → Fits rate u → u.position + k ≤ chunk → i + k ≤ length p
-      → Fits rate (record { value = put_to rate u.value.index u.value.final u.value.leaf (take k (drop i p)); position = u.position + k })
-  part_fits u p i k h g l =
-      let n : length (take k (drop i p)) ≡ k = length-take-le k (drop i p) (rw length-drop (omega arith)) in
-      subst (λ (j : ℕ). Fits rate (record { value = put_to rate u.value.index u.value.final u.value.leaf (take k (drop i p)); position = u.position + j })) n
-      (put-fits u (take k (drop i p)) h (omega arith))
+  -- ---- the loop over the chunks: u is the place of the next byte, and the first k bytes of p lie in the chunk
 
-  -- ---- the loop over the chunks: u is the place of the next byte, and k bytes of p from index i on lie in the chunk
-
-  pub tree_part : (chaining : ℕ) (t u v : At Tree) → u ≡ ready (end_chunk rate chaining) chunk t → u.position < chunk → (p : List ℕ) (i k : ℕ)
-      → v ≡ record { value = put_to rate u.value.index u.value.final u.value.leaf (take k (drop i p)); position = u.position + k }
-      → i < length p → u.position + k ≤ chunk → i + k ≤ length p → absorb_tree rate chaining v (drop (i + k) p) ≡ absorb_tree rate chaining t (drop i p)
-  tree_part chaining t u v e h p i k w hi hk hl =
-      ap (λ (x : At Tree). absorb_tree rate chaining x (drop (i + k) p)) w
-      ∙ ap (λ (x : Tree). absorb_tree rate chaining (record { value = x; position = u.position + k }) (drop (i + k) p)) (sym (puts_is rate chaining u.value u.position (take k (drop i p))))
-      ∙ steps_part (end_chunk rate chaining) (put_byte rate) chunk t u e h p i k hi hk hl
+  pub tree_part : (chaining : ℕ) (t u v : At Tree) → u ≡ ready (end_chunk rate chaining) chunk t → u.position < chunk → (p : List ℕ) (k : ℕ)
+      → v ≡ record { value = put_to rate u.value.index u.value.final u.value.leaf (take k p); position = u.position + k }
+      → 0 < length p → u.position + k ≤ chunk → k ≤ length p → absorb_tree rate chaining v (drop k p) ≡ absorb_tree rate chaining t p
+  tree_part chaining t u v e h p k w hi hk hl =
+      ap (λ (x : At Tree). absorb_tree rate chaining x (drop k p)) w
+      ∙ ap (λ (x : Tree). absorb_tree rate chaining (record { value = x; position = u.position + k }) (drop k p)) (sym (puts_is rate chaining u.value u.position (take k p)))
+      ∙ rw zero-add at (steps_part (end_chunk rate chaining) (put_byte rate) chunk t u e h p 0 k hi hk (omega (arith, hl)))
 
   -- ---- the sponge's calls; o, q and r are what they leave
 

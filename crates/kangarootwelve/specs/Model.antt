@@ -17,10 +17,6 @@ use Rattle.kangarootwelve.specs.Transcript.{customization_limit, customization_s
 use Rattle.kangarootwelve.specs.Tree.{Tree, absorb_tree, finish_tree, finalize_tree}
 use Rattle.kangarootwelve.specs.Count.{CountedTree, count_absorbed, count_finished, count_finalized, count_due}
 use Rattle.kangarootwelve.specs.declared.Run.{Run}
-use Rattle.kangarootwelve.specs.declared.Kt128.{Kt128}
-use Rattle.kangarootwelve.specs.declared.Answer128.{Answer128}
-use Rattle.kangarootwelve.specs.declared.Kt256.{Kt256}
-use Rattle.kangarootwelve.specs.declared.Answer256.{Answer256}
 use Rattle.kangarootwelve.specs.declared.LengthEncoding.{LengthEncoding}
 
 -- the two sponges of a run, its customization bytes, the third total, and the permutations of the definition so far (request Q-10)
@@ -151,25 +147,12 @@ reply_of rate chaining r c = record {
   left = (answer_of rate chaining r c).run;
 }
 
--- a call's answer in the types of each strength, which differ in their names and two numbers
-abbrev pub answer128 : Kt128 → Call (List ℕ) → Answer128
-answer128 h c = record { status = (answer_of 168 32 h.run c).status; hasher = record { run = (answer_of 168 32 h.run c).run } }
-
-abbrev pub answer256 : Kt256 → Call (List ℕ) → Answer256
-answer256 h c = record { status = (answer_of 136 64 h.run c).status; hasher = record { run = (answer_of 136 64 h.run c).run } }
-
--- a message feed that lends n words for four leaves abreast (request Q-6): what it answers, and in the types of each strength
+-- a message feed that lends n words for four leaves abreast (request Q-6): what it answers
 abbrev pub absorb_with : ℕ → List ℕ → CallWith (List ℕ)
 absorb_with n p = record { call = absorb p; lending = words n }
 
 unfoldable pub answer_abreast : ℕ → ℕ → Run → ℕ → List ℕ → Answer
 answer_abreast rate chaining r n p = record { status = (answer_with (reply_of rate chaining) r (absorb_with n p)).status; run = (answer_with (reply_of rate chaining) r (absorb_with n p)).left }
-
-abbrev pub abreast128 : Kt128 → ℕ → List ℕ → Answer128
-abreast128 h n p = record { status = (answer_abreast 168 32 h.run n p).status; hasher = record { run = (answer_abreast 168 32 h.run n p).run } }
-
-abbrev pub abreast256 : Kt256 → ℕ → List ℕ → Answer256
-abreast256 h n p = record { status = (answer_abreast 136 64 h.run n p).status; hasher = record { run = (answer_abreast 136 64 h.run n p).run } }
 
 -- what the lent words hold after a call with this status, which held s before: zeros where it is done
 abbrev pub states_after : ℕ → List ℕ → List ℕ

@@ -1,4 +1,4 @@
-// The calls on a run, over the rate and the length of a chaining value.
+// The calls on a run, over the strength.
 ghost use Rattle.std.specs.Prelude.{◌≡◌, List, true, cond, ℕ, ◌+◌, ◌%◌, ◌^◌, ◌<◌, ◌≤◌, length, eqb};
 ghost use Rattle.sponge.specs.Transcript.{Call};
 ghost use Rattle.turboshake.specs.Transcript.{message_limit, output_limit};
@@ -9,7 +9,7 @@ ghost use Rattle.kangarootwelve.specs.Inside.{progress_of, place_of, open_due, f
 
 use crate::{
     ABSORBING, CUSTOMIZATION_LIMIT, CUSTOMIZING, Moved, Place, Progress, Run, SQUEEZING, State,
-    fours, reached, totals, tree,
+    Strength, fours, reached, totals, tree,
 };
 use sponge::status;
 use turboshake::{MESSAGE_LIMIT, OUTPUT_LIMIT};
@@ -85,9 +85,9 @@ fn place(at: Progress) -> Place
 }
 
 // What a run that is closed now holds beside its lanes.
-fn closed(rate: usize, chaining: usize, at: Progress, customized: u64) -> Progress
-    requires { (0 < rate) × (chaining ≤ 64) × (at.absorbed ≤ message_limit) × (customized ≤ customization_limit) × (at.squeezed ≤ output_limit) }
-    ensures { result ≡ record { node = 0; leaf = 0; phase = 1; absorbed = at.absorbed; customized = customized; squeezed = at.squeezed; permutations = closed_kt rate chaining (at.absorbed + customized) customized at.squeezed } }
+fn closed(strength: Strength, at: Progress, customized: u64) -> Progress
+    requires { (at.absorbed ≤ message_limit) × (customized ≤ customization_limit) × (at.squeezed ≤ output_limit) }
+    ensures { result ≡ record { node = 0; leaf = 0; phase = 1; absorbed = at.absorbed; customized = customized; squeezed = at.squeezed; permutations = closed_kt strength.rate strength.chaining (at.absorbed + customized) customized at.squeezed } }
 {
     let total = at.absorbed + customized;
     let mut next = at;
@@ -95,7 +95,7 @@ fn closed(rate: usize, chaining: usize, at: Progress, customized: u64) -> Progre
     next.leaf = 0;
     next.phase = SQUEEZING;
     next.customized = customized;
-    next.permutations = totals::closed_kt(rate, chaining, total, customized, at.squeezed);
+    next.permutations = totals::closed_kt(strength, total, customized, at.squeezed);
     next
 }
 
@@ -110,25 +110,25 @@ fn position_in_hand(at: Place) -> usize
 }
 
 // The permutations after so many more bytes of S in an open run: as many as before where they fit the block and the chunk in hand.
-fn count_after(rate: usize, chaining: usize, at: Progress, from: Place, more: usize) -> u64
-    requires { (0 < rate) × (chaining ≤ 64) × (open_due rate chaining at ≡ true) × (from ≡ place_of at) × (at.absorbed + at.customized + more ≤ message_limit + customization_limit) }
-    ensures { result ≡ open_kt rate chaining (at.absorbed + at.customized + more) }
+fn count_after(strength: Strength, at: Progress, from: Place, more: usize) -> u64
+    requires { (open_due strength.rate strength.chaining at ≡ true) × (from ≡ place_of at) × (at.absorbed + at.customized + more ≤ message_limit + customization_limit) }
+    ensures { result ≡ open_kt strength.rate strength.chaining (at.absorbed + at.customized + more) }
 {
-    if more <= rate - position_in_hand(from) {
+    if more <= strength.rate - position_in_hand(from) {
         if more <= tree::CHUNK - from.position {
             return at.permutations;
         }
     }
-    totals::open_kt(rate, chaining, at.absorbed + at.customized + more as u64)
+    totals::open_kt(strength, at.absorbed + at.customized + more as u64)
 }
 
 // The status of a message feed of so many bytes.
-fn absorb_status(rate: usize, chaining: usize, at: Progress, more: usize) -> u8
-    requires { (0 < rate) × (chaining ≤ 64) × (more < 2 ^ 63) }
-    ensures { result ≡ feed_status rate chaining at more }
+fn absorb_status(strength: Strength, at: Progress, more: usize) -> u8
+    requires { more < 2 ^ 63 }
+    ensures { result ≡ feed_status strength.rate strength.chaining at more }
 {
-    if !reached::is_open(rate, chaining, at) {
-        return reached::status_if_not_open(rate, chaining, at);
+    if !reached::is_open(strength, at) {
+        return reached::status_if_not_open(strength, at);
     }
     if at.phase != ABSORBING {
         return status::WRONG_PHASE;
@@ -155,75 +155,69 @@ fn absorbed(at: Progress, after: Place, total: u64, counted: u64) -> Moved
 }
 
 pub(crate) fn absorb(
-    rate: usize,
-    chaining: usize,
+    strength: Strength,
     node: &mut [u64; 25],
     leaf: &mut [u64; 25],
     at: Progress,
     piece: &[u8],
 ) -> Moved
-    requires { (0 < rate) × (rate ≤ 200) × (chaining ≤ 64) }
-    ensures { answered result node.new leaf.new ≡ answer_of rate chaining (run_with node.old leaf.old at) (Call.absorb piece.now) }
+    ensures { answered result node.new leaf.new ≡ answer_of strength.rate strength.chaining (run_with node.old leaf.old at) (Call.absorb piece.now) }
 {
-    let refusal = absorb_status(rate, chaining, at, piece.len());
+    let refusal = absorb_status(strength, at, piece.len());
     if refusal != status::DONE {
         return refused(refusal, at);
     }
     let from = place(at);
-    let counted = count_after(rate, chaining, at, from, piece.len());
-    let after = tree::absorb(rate, chaining, node, leaf, from, piece);
+    let counted = count_after(strength, at, from, piece.len());
+    let after = tree::absorb(strength, node, leaf, from, piece);
     absorbed(at, after, at.absorbed + piece.len() as u64, counted)
 }
 
 // The same with every four leaves that lie whole in the piece abreast, in the lent words.
 pub(crate) fn absorb_abreast(
-    rate: usize,
-    chaining: usize,
+    strength: Strength,
     node: &mut [u64; 25],
     leaf: &mut [u64; 25],
     at: Progress,
     piece: &[u8],
     states: &mut [u64],
 ) -> Moved
-    requires { (0 < rate) × (rate ≤ 200) × (chaining ≤ 64) × (rate % 8 ≡ 0) × (chaining % 8 ≡ 0) × (chaining ≤ rate) }
-    ensures leaf_after { answered result node.new leaf.new ≡ answer_abreast rate chaining (run_with node.old leaf.old at) (length states.old) piece.now }
+    ensures leaf_after { answered result node.new leaf.new ≡ answer_abreast strength.rate strength.chaining (run_with node.old leaf.old at) (length states.old) piece.now }
     ensures states_after { states.new ≡ states_after result.status states.old }
 {
     if states.len() != 100 {
         return refused(status::BAD_STATES, at);
     }
-    let refusal = absorb_status(rate, chaining, at, piece.len());
+    let refusal = absorb_status(strength, at, piece.len());
     if refusal != status::DONE {
         return refused(refusal, at);
     }
     abreast::clear(states);
     let from = place(at);
-    let counted = count_after(rate, chaining, at, from, piece.len());
-    let after = fours::absorb(rate, chaining, node, leaf, from, piece, states);
+    let counted = count_after(strength, at, from, piece.len());
+    let after = fours::absorb(strength, node, leaf, from, piece, states);
     absorbed(at, after, at.absorbed + piece.len() as u64, counted)
 }
 
 pub(crate) fn customize(
-    rate: usize,
-    chaining: usize,
+    strength: Strength,
     node: &mut [u64; 25],
     leaf: &mut [u64; 25],
     at: Progress,
     piece: &[u8],
 ) -> Moved
-    requires { (0 < rate) × (rate ≤ 200) × (chaining ≤ 64) }
-    ensures { answered result node.new leaf.new ≡ answer_of rate chaining (run_with node.old leaf.old at) (Call.customize piece.now) }
+    ensures { answered result node.new leaf.new ≡ answer_of strength.rate strength.chaining (run_with node.old leaf.old at) (Call.customize piece.now) }
 {
-    if !reached::is_open(rate, chaining, at) {
-        return refused(reached::status_if_not_open(rate, chaining, at), at);
+    if !reached::is_open(strength, at) {
+        return refused(reached::status_if_not_open(strength, at), at);
     }
     let total = at.customized + piece.len() as u64;
     if CUSTOMIZATION_LIMIT < total {
         return refused(status::CUSTOMIZATION_TOO_LONG, at);
     }
     let from = place(at);
-    let counted = count_after(rate, chaining, at, from, piece.len());
-    let after = tree::absorb(rate, chaining, node, leaf, from, piece);
+    let counted = count_after(strength, at, from, piece.len());
+    let after = tree::absorb(strength, node, leaf, from, piece);
     let mut next = at;
     next.node = after.node;
     next.leaf = after.leaf;
@@ -237,18 +231,16 @@ pub(crate) fn customize(
 }
 
 pub(crate) fn finalize(
-    rate: usize,
-    chaining: usize,
+    strength: Strength,
     node: &mut [u64; 25],
     leaf: &mut [u64; 25],
     at: Progress,
     customization: &[u8],
 ) -> Moved
-    requires { (0 < rate) × (rate ≤ 200) × (chaining ≤ 64) }
-    ensures { answered result node.new leaf.new ≡ answer_of rate chaining (run_with node.old leaf.old at) (Call.finalize customization.now) }
+    ensures { answered result node.new leaf.new ≡ answer_of strength.rate strength.chaining (run_with node.old leaf.old at) (Call.finalize customization.now) }
 {
-    if !reached::is_open(rate, chaining, at) {
-        return refused(reached::status_if_not_open(rate, chaining, at), at);
+    if !reached::is_open(strength, at) {
+        return refused(reached::status_if_not_open(strength, at), at);
     }
     if at.phase != ABSORBING {
         return refused(status::WRONG_PHASE, at);
@@ -256,67 +248,57 @@ pub(crate) fn finalize(
     if CUSTOMIZATION_LIMIT < customization.len() as u64 {
         return refused(status::CUSTOMIZATION_TOO_LONG, at);
     }
-    tree::finalize(rate, chaining, node, leaf, place(at), customization);
+    tree::finalize(strength, node, leaf, place(at), customization);
     let fresh = [0u64; 25];
     *leaf = fresh;
     Moved {
-        at: closed(rate, chaining, at, customization.len() as u64),
+        at: closed(strength, at, customization.len() as u64),
         status: status::DONE,
     }
 }
 
 pub(crate) fn finish(
-    rate: usize,
-    chaining: usize,
+    strength: Strength,
     node: &mut [u64; 25],
     leaf: &mut [u64; 25],
     at: Progress,
 ) -> Moved
-    requires { (0 < rate) × (rate ≤ 200) × (chaining ≤ 64) }
-    ensures { answered result node.new leaf.new ≡ answer_of rate chaining (run_with node.old leaf.old at) Call.finish }
+    ensures { answered result node.new leaf.new ≡ answer_of strength.rate strength.chaining (run_with node.old leaf.old at) Call.finish }
 {
-    if !reached::is_open(rate, chaining, at) {
-        return refused(reached::status_if_not_open(rate, chaining, at), at);
+    if !reached::is_open(strength, at) {
+        return refused(reached::status_if_not_open(strength, at), at);
     }
     if at.phase != CUSTOMIZING {
         return refused(status::WRONG_PHASE, at);
     }
-    tree::finish(rate, chaining, node, leaf, place(at), at.customized);
+    tree::finish(strength, node, leaf, place(at), at.customized);
     let fresh = [0u64; 25];
     *leaf = fresh;
     Moved {
-        at: closed(rate, chaining, at, at.customized),
+        at: closed(strength, at, at.customized),
         status: status::DONE,
     }
 }
 
 // The leaf of a run is not looked at, whatever it holds.
 pub(crate) fn squeeze(
-    rate: usize,
-    chaining: usize,
+    strength: Strength,
     node: &mut [u64; 25],
     at: Progress,
     out: &mut [u8],
 ) -> Moved
-    requires { (0 < rate) × (rate ≤ 200) × (chaining ≤ 64) }
-    ensures by_index { (leaf : List ℕ) → answered result node.new leaf ≡ answer_of rate chaining (run_with node.old leaf at) (Call.squeeze (length out.old)) }
-    ensures by_index_2 { (leaf : List ℕ) → out.new ≡ output_of rate chaining (run_with node.old leaf at) out.old }
+    ensures by_index { (leaf : List ℕ) → answered result node.new leaf ≡ answer_of strength.rate strength.chaining (run_with node.old leaf at) (Call.squeeze (length out.old)) }
+    ensures by_index_2 { (leaf : List ℕ) → out.new ≡ output_of strength.rate strength.chaining (run_with node.old leaf at) out.old }
 {
-    if !reached::is_closed(rate, chaining, at) {
-        return refused(reached::status_if_not_closed(rate, chaining, at), at);
+    if !reached::is_closed(strength, at) {
+        return refused(reached::status_if_not_closed(strength, at), at);
     }
     let total = at.squeezed + out.len() as u64;
     if OUTPUT_LIMIT < total {
         return refused(status::OUTPUT_TOO_LONG, at);
     }
-    let counted = totals::closed_kt(
-        rate,
-        chaining,
-        at.absorbed + at.customized,
-        at.customized,
-        total,
-    );
-    let given = sponge::squeeze(node, at.node, rate, turboshake::ROUNDS, out);
+    let counted = totals::closed_kt(strength, at.absorbed + at.customized, at.customized, total);
+    let given = sponge::squeeze(node, at.node, strength.rate, turboshake::ROUNDS, out);
     let mut next = at;
     next.node = given.position;
     next.squeezed = total;

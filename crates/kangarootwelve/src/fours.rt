@@ -5,15 +5,14 @@ ghost use Rattle.kangarootwelve.specs.Tree.{absorb_tree};
 ghost use Rattle.kangarootwelve.specs.Inside.{tree_of, Fits};
 ghost use Rattle.kangarootwelve.specs.Leaves.{cleared};
 
-use crate::{Place, leaves, tree};
+use crate::{Place, Strength, leaves, tree};
 
 // The bytes of four chunks.
 const FOUR_CHUNKS: usize = 4 * tree::CHUNK;
 
 // Absorbs up to four chunks from the first byte of a leaf on: four whole ones abreast, of which the last stays open, and fewer as the tree does.
 fn absorb_last(
-    rate: usize,
-    chaining: usize,
+    strength: Strength,
     node: &mut [u64; 25],
     leaf: &mut [u64; 25],
     at: Place,
@@ -21,14 +20,14 @@ fn absorb_last(
     states: &mut [u64],
     value: &mut [u8],
 ) -> Place
-    requires rate_nonzero { (0 < rate) × (rate ≤ 200) × (rate % 8 ≡ 0) × (chaining ≤ 64) × (chaining % 8 ≡ 0) × (chaining ≤ rate) × (length value.old ≡ chaining) }
-    requires node_le_rate { (at.node ≤ rate) × (at.leaf ≡ 0) × (0 < at.index) × (at.position ≡ 0) × (at.index + length chunks.now < 2 ^ 63) × (leaf.old ≡ replicate 25 0) × (states.old ≡ cleared) }
-    ensures fits { Fits rate (tree_of node.new leaf.new result) × (states.new ≡ cleared) }
+    requires value_len { length value.old ≡ strength.chaining }
+    requires leaf_begins { (at.node ≤ strength.rate) × (at.leaf ≡ 0) × (0 < at.index) × (at.position ≡ 0) × (at.index + length chunks.now < 2 ^ 63) × (leaf.old ≡ replicate 25 0) × (states.old ≡ cleared) }
+    ensures fits { Fits strength.rate (tree_of node.new leaf.new result) × (states.new ≡ cleared) }
     ensures index_bound { result.index ≤ at.index + length chunks.now }
-    ensures result_after { tree_of node.new leaf.new result ≡ absorb_tree rate chaining (tree_of node.old leaf.old at) chunks.now }
+    ensures result_after { tree_of node.new leaf.new result ≡ absorb_tree strength.rate strength.chaining (tree_of node.old leaf.old at) chunks.now }
 {
     if chunks.len() == FOUR_CHUNKS {
-        let open = leaves::absorb_open(rate, node, at.node, leaf, chunks, states, value);
+        let open = leaves::absorb_open(strength, node, at.node, leaf, chunks, states, value);
         return Place {
             node: open.node,
             leaf: open.leaf,
@@ -36,13 +35,12 @@ fn absorb_last(
             position: tree::CHUNK,
         };
     }
-    tree::absorb(rate, chaining, node, leaf, at, chunks)
+    tree::absorb(strength, node, leaf, at, chunks)
 }
 
 // Absorbs chunks from the first byte of a leaf on.
 fn absorb_leaves(
-    rate: usize,
-    chaining: usize,
+    strength: Strength,
     node: &mut [u64; 25],
     leaf: &mut [u64; 25],
     at: Place,
@@ -50,69 +48,52 @@ fn absorb_leaves(
     states: &mut [u64],
     value: &mut [u8],
 ) -> Place
-    requires rate_nonzero { (0 < rate) × (rate ≤ 200) × (rate % 8 ≡ 0) × (chaining ≤ 64) × (chaining % 8 ≡ 0) × (chaining ≤ rate) × (length value.old ≡ chaining) }
-    requires node_le_rate { (at.node ≤ rate) × (at.leaf ≡ 0) × (0 < at.index) × (at.position ≡ 0) × (at.index + length chunks.now < 2 ^ 63) × (leaf.old ≡ replicate 25 0) × (states.old ≡ cleared) × (0 < length chunks.now) }
-    ensures fits { Fits rate (tree_of node.new leaf.new result) × (states.new ≡ cleared) }
+    requires value_len { length value.old ≡ strength.chaining }
+    requires leaf_begins { (at.node ≤ strength.rate) × (at.leaf ≡ 0) × (0 < at.index) × (at.position ≡ 0) × (at.index + length chunks.now < 2 ^ 63) × (leaf.old ≡ replicate 25 0) × (states.old ≡ cleared) × (0 < length chunks.now) }
+    ensures fits { Fits strength.rate (tree_of node.new leaf.new result) × (states.new ≡ cleared) }
     ensures index_bound { result.index ≤ at.index + length chunks.now }
-    ensures result_after { tree_of node.new leaf.new result ≡ absorb_tree rate chaining (tree_of node.old leaf.old at) chunks.now }
+    ensures result_after { tree_of node.new leaf.new result ≡ absorb_tree strength.rate strength.chaining (tree_of node.old leaf.old at) chunks.now }
 {
     let mut place = at;
-    let mut i = 0;
-    while FOUR_CHUNKS < chunks.len() - i {
-        let position = leaves::absorb_four(
-            rate,
-            node,
-            place.node,
-            &chunks[i..i + FOUR_CHUNKS],
-            states,
-            value,
-        );
+    let mut rest = chunks;
+    while FOUR_CHUNKS < rest.len() {
+        let (four, after) = rest.split_at(FOUR_CHUNKS);
+        let position = leaves::absorb_four(strength, node, place.node, four, states, value);
         place = tree::opened(position, place.index + 4);
-        i += FOUR_CHUNKS;
+        rest = after;
     }
-    absorb_last(
-        rate,
-        chaining,
-        node,
-        leaf,
-        place,
-        &chunks[i..],
-        states,
-        value,
-    )
+    absorb_last(strength, node, leaf, place, rest, states, value)
 }
 
 // Absorbs bytes of S. What comes before the first leaf that begins in the piece, and the leaves after the last four whole ones, go through the tree.
 pub(crate) fn absorb(
-    rate: usize,
-    chaining: usize,
+    strength: Strength,
     node: &mut [u64; 25],
     leaf: &mut [u64; 25],
     at: Place,
     piece: &[u8],
     states: &mut [u64],
 ) -> Place
-    requires rate_nonzero { (0 < rate) × (rate ≤ 200) × (chaining ≤ 64) × Fits rate (tree_of node.old leaf.old at) × (at.index + length piece.now + 1 < 2 ^ 63) }
-    requires rate_value { (rate % 8 ≡ 0) × (chaining % 8 ≡ 0) × (chaining ≤ rate) × (states.old ≡ cleared) }
-    ensures fits { Fits rate (tree_of node.new leaf.new result) × (states.new ≡ cleared) }
+    requires place_fits { Fits strength.rate (tree_of node.old leaf.old at) × (at.index + length piece.now + 1 < 2 ^ 63) }
+    requires states_cleared { states.old ≡ cleared }
+    ensures fits { Fits strength.rate (tree_of node.new leaf.new result) × (states.new ≡ cleared) }
     ensures index_bound { result.index ≤ at.index + length piece.now + 1 }
-    ensures result_after { tree_of node.new leaf.new result ≡ absorb_tree rate chaining (tree_of node.old leaf.old at) piece.now }
+    ensures result_after { tree_of node.new leaf.new result ≡ absorb_tree strength.rate strength.chaining (tree_of node.old leaf.old at) piece.now }
 {
     let lead = tree::CHUNK - at.position;
     if piece.len() < lead + FOUR_CHUNKS {
-        return tree::absorb(rate, chaining, node, leaf, at, piece);
+        return tree::absorb(strength, node, leaf, at, piece);
     }
-    let full = tree::absorb(rate, chaining, node, leaf, at, &piece[..lead]);
-    let next = tree::end_chunk(rate, chaining, node, leaf, full);
+    let full = tree::absorb(strength, node, leaf, at, &piece[..lead]);
+    let next = tree::end_chunk(strength, node, leaf, full);
     let mut value = [0u8; 64];
     absorb_leaves(
-        rate,
-        chaining,
+        strength,
         node,
         leaf,
         next,
         &piece[lead..],
         states,
-        &mut value[0..chaining],
+        &mut value[0..strength.chaining],
     )
 }

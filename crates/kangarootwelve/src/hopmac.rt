@@ -1,9 +1,13 @@
 // HopMAC in one go: KT of the key, with the KT of the message and the customization string as customization string. And its tag check.
-ghost use Rattle.std.specs.Prelude.{◌≡◌, ◌&&◌, ◌<◌, ◌≤◌, length, eqb};
+ghost use Rattle.std.specs.Prelude.{◌≡◌, ℕ, ◌&&◌, ◌<◌, ◌≤◌, length, eqb};
+ghost use Rattle.std.proofs.Common.{rules};
 ghost use Rattle.kangarootwelve.specs.Published.{hopmac};
 ghost use Rattle.kangarootwelve.specs.Mac.{mac_status, mac_output, check_status, same_bytes, verdict_of};
 
-use crate::{CUSTOMIZATION_LIMIT, TAG_LIMIT, Verdict, one_go};
+use crate::{
+    CUSTOMIZATION_LIMIT, HopMac128, HopMac256, Kt, Kt128, Kt256, Strength, TAG_LIMIT, Verdict,
+    one_go,
+};
 use sponge::status;
 use turboshake::MESSAGE_LIMIT;
 
@@ -18,34 +22,32 @@ fn mac_status(key: u64, message: u64, customization: u64, asked: u64) -> u8
 
 // Writes the inner digest to `digest` and the tag to `out`.
 fn mac_over(
-    rate: usize,
-    chaining: usize,
+    strength: Strength,
     key: &[u8],
     message: &[u8],
     customization: &[u8],
     digest: &mut [u8],
     out: &mut [u8],
 ) -> u8
-    requires { (0 < rate) × (rate ≤ 200) × (0 < chaining) × (chaining ≤ 64) × (0 < length digest.old) × (length digest.old ≤ 64) × (mac_status (length key.now) (length message.now) (length customization.now) (length out.old) ≡ 0) }
+    requires { (0 < length digest.old) × (length digest.old ≤ 64) × (mac_status (length key.now) (length message.now) (length customization.now) (length out.old) ≡ 0) }
     ensures value { result ≡ 0 }
-    ensures out_after { out.new ≡ hopmac rate chaining (length digest.old) key.now message.now customization.now (length out.old) }
+    ensures out_after { out.new ≡ hopmac strength.rate strength.chaining (length digest.old) key.now message.now customization.now (length out.old) }
 {
-    let hashed = one_go::hash(rate, chaining, message, customization, digest);
-    one_go::hash(rate, chaining, key, digest, out)
+    let hashed = one_go::hash(strength, message, customization, digest);
+    one_go::hash(strength, key, digest, out)
 }
 
 pub(crate) fn tag(
-    rate: usize,
-    chaining: usize,
+    strength: Strength,
     inner: usize,
     key: &[u8],
     message: &[u8],
     customization: &[u8],
     out: &mut [u8],
 ) -> u8
-    requires { (0 < rate) × (rate ≤ 200) × (0 < chaining) × (chaining ≤ 64) × (0 < inner) × (inner ≤ 64) }
+    requires { (0 < inner) × (inner ≤ 64) }
     ensures value { result ≡ mac_status (length key.now) (length message.now) (length customization.now) (length out.old) }
-    ensures out_after { out.new ≡ mac_output rate chaining inner key.now message.now customization.now out.old }
+    ensures out_after { out.new ≡ mac_output strength.rate strength.chaining inner key.now message.now customization.now out.old }
 {
     let refusal = mac_status(
         key.len() as u64,
@@ -58,8 +60,7 @@ pub(crate) fn tag(
     }
     let mut digest = [0u8; 64];
     mac_over(
-        rate,
-        chaining,
+        strength,
         key,
         message,
         customization,
@@ -102,18 +103,15 @@ pub(crate) fn is_same(expected: &[u8], presented: &[u8]) -> bool
     ensures { result ≡ same_bytes expected.now presented.now }
 {
     let mut difference = 0u8;
-    let mut i = 0;
-    while i < expected.len() {
-        difference = gather(difference, expected[i], presented[i]);
-        i += 1;
+    for (x, y) in expected.iter().zip(presented) {
+        difference = gather(difference, *x, *y);
     }
     difference == 0
 }
 
 // Writes as many bytes of the tag as were presented to `expected`, and compares.
 fn is_tag(
-    rate: usize,
-    chaining: usize,
+    strength: Strength,
     inner: usize,
     key: &[u8],
     message: &[u8],
@@ -121,24 +119,23 @@ fn is_tag(
     presented: &[u8],
     expected: &mut [u8],
 ) -> bool
-    requires { (0 < rate) × (rate ≤ 200) × (0 < chaining) × (chaining ≤ 64) × (0 < inner) × (inner ≤ 64) × (length expected.old ≡ length presented.now) × (mac_status (length key.now) (length message.now) (length customization.now) (length presented.now) ≡ 0) }
-    ensures { result ≡ same_bytes (hopmac rate chaining inner key.now message.now customization.now (length presented.now)) presented.now }
+    requires { (0 < inner) × (inner ≤ 64) × (length expected.old ≡ length presented.now) × (mac_status (length key.now) (length message.now) (length customization.now) (length presented.now) ≡ 0) }
+    ensures { result ≡ same_bytes (hopmac strength.rate strength.chaining inner key.now message.now customization.now (length presented.now)) presented.now }
 {
-    let written = tag(rate, chaining, inner, key, message, customization, expected);
+    let written = tag(strength, inner, key, message, customization, expected);
     is_same(expected, presented)
 }
 
 pub(crate) fn verify(
-    rate: usize,
-    chaining: usize,
+    strength: Strength,
     inner: usize,
     key: &[u8],
     message: &[u8],
     customization: &[u8],
     presented: &[u8],
 ) -> Verdict
-    requires { (0 < rate) × (rate ≤ 200) × (0 < chaining) × (chaining ≤ 64) × (0 < inner) × (inner ≤ 64) }
-    ensures { result ≡ verdict_of rate chaining inner key.now message.now customization.now presented.now }
+    requires { (0 < inner) × (inner ≤ 64) }
+    ensures { result ≡ verdict_of strength.rate strength.chaining inner key.now message.now customization.now presented.now }
 {
     let refusal = check_status(
         key.len() as u64,
@@ -154,8 +151,7 @@ pub(crate) fn verify(
     }
     let mut expected = [0u8; 64];
     let valid = is_tag(
-        rate,
-        chaining,
+        strength,
         inner,
         key,
         message,
@@ -167,4 +163,65 @@ pub(crate) fn verify(
         status: refusal,
         valid,
     }
+}
+
+// A strength: its KT, and the bytes of the inner digest.
+pub trait HopMac {
+    type Hash: Kt;
+
+    ghost INNER: { ℕ };
+
+    const INNER: usize;
+
+    // An inner digest fits a block.
+    ghost bounds: { (0 < INNER) × (INNER ≤ 64) × (INNER ≤ Self.Hash.RATE) };
+
+    // The tag of a message and a customization string under the key: as many bytes as `out` holds.
+    final fn tag(key: &[u8], message: &[u8], customization: &[u8], out: &mut [u8]) -> u8
+        ensures value { result ≡ mac_status (length key.now) (length message.now) (length customization.now) (length out.old) }
+        ensures out_after { out.new ≡ mac_output Self.Hash.RATE Self.Hash.CHAINING INNER key.now message.now customization.now out.old }
+    {
+        tag(
+            Strength::of::<Self::Hash>(),
+            Self::INNER,
+            key,
+            message,
+            customization,
+            out,
+        )
+    }
+
+    // Whether the presented tag, of 1 to 64 bytes, is that of the message and the customization string under the key.
+    final fn verify(key: &[u8], message: &[u8], customization: &[u8], presented: &[u8]) -> Verdict
+        ensures { result ≡ verdict_of Self.Hash.RATE Self.Hash.CHAINING INNER key.now message.now customization.now presented.now }
+    {
+        verify(
+            Strength::of::<Self::Hash>(),
+            Self::INNER,
+            key,
+            message,
+            customization,
+            presented,
+        )
+    }
+}
+
+impl HopMac for HopMac128 {
+    type Hash = Kt128;
+
+    ghost INNER = { 32 };
+
+    const INNER: usize = 32;
+
+    ghost bounds = { Prim.search rules };
+}
+
+impl HopMac for HopMac256 {
+    type Hash = Kt256;
+
+    ghost INNER = { 64 };
+
+    const INNER: usize = 64;
+
+    ghost bounds = { Prim.search rules };
 }

@@ -12,21 +12,21 @@ ghost use Rattle.sponge.specs.Model as model;
 ghost use Rattle.kangarootwelve.specs.Published.{intermediate_domain};
 ghost use Rattle.kangarootwelve.specs.Leaves.{chunk_at, Sponges, states_bytes, open_values, values_of, cleared};
 
-use crate::{FourOpen, tree};
+use crate::{FourOpen, Strength, tree};
 
 // Absorbs a chunk into each sponge, a block at a time, and answers the position after them.
-fn absorb_chunks(states: &mut [u64], rate: usize, chunks: &[u8]) -> usize
-    requires states_len { (length states.old ≡ 100) × (length chunks.now ≡ 32768) }
-    requires rate_nonzero { (0 < rate) × (rate ≤ 200) × (rate % 8 ≡ 0) }
-    ensures upper_bound { result ≤ rate }
-    ensures sponges { Sponges (λ k s. absorb_bytes permuted rate s (chunk_at k chunks.now)) states.old 0 states.new result }
+fn absorb_chunks(states: &mut [u64], strength: Strength, chunks: &[u8]) -> usize
+    requires { (length states.old ≡ 100) × (length chunks.now ≡ 32768) }
+    ensures upper_bound { result ≤ strength.rate }
+    ensures sponges { Sponges (λ k s. absorb_bytes permuted strength.rate s (chunk_at k chunks.now)) states.old 0 states.new result }
 {
-    let first = sponge::four::xor_block(states, chunks, 0, rate);
-    let mut p = rate;
-    let mut i = rate;
+    let first = sponge::four::xor_block(states, chunks, 0, strength.rate);
+    let mut p = strength.rate;
+    let mut i = strength.rate;
+    // Kept: the last block is shorter, so that `step_by` would give the offsets, and their lengths would be worked out all the same.
     while i < tree::CHUNK {
         let full = abreast::permute_in_place(states, turboshake::ROUNDS);
-        p = tree::least(rate, tree::CHUNK - i);
+        p = strength.rate.min(tree::CHUNK - i);
         let next = sponge::four::xor_block(states, chunks, i, p);
         i += p;
     }
@@ -54,20 +54,18 @@ fn xor_bytes(states: &mut [u64], at: usize, b: u8)
     requires { (length states.old ≡ 100) × (at < 200) }
     ensures { Each (λ _ l. xor_byte l at b) states.old states.new }
 {
-    let mut j: usize = 0;
-    while j < 4 {
+    for j in 0..4 {
         xor_byte(states, j, at, b);
-        j += 1;
     }
 }
 
 // Permutes full blocks, and answers the position of the next byte.
-fn next_position(states: &mut [u64], position: usize, rate: usize) -> usize
-    requires { (length states.old ≡ 100) × (position ≤ rate) × (0 < rate) }
-    ensures upper_bound { result < rate }
-    ensures sponges { Sponges (λ _. ready permuted rate) states.old position states.new result }
+fn next_position(states: &mut [u64], position: usize, strength: Strength) -> usize
+    requires { (length states.old ≡ 100) × (position ≤ strength.rate) }
+    ensures upper_bound { result < strength.rate }
+    ensures sponges { Sponges (λ _. ready permuted strength.rate) states.old position states.new result }
 {
-    if position == rate {
+    if position == strength.rate {
         let full = abreast::permute_in_place(states, turboshake::ROUNDS);
         return 0;
     }
@@ -75,13 +73,13 @@ fn next_position(states: &mut [u64], position: usize, rate: usize) -> usize
 }
 
 // Ends each chunk: its domain separation byte and the padding go into the block, and the permutation follows.
-fn pad(states: &mut [u64], position: usize, rate: usize)
-    requires { (length states.old ≡ 100) × (position ≤ rate) × (0 < rate) × (rate ≤ 200) }
-    ensures { Sponges (λ _ s. model.pad permuted rate s intermediate_domain) states.old position states.new 0 }
+fn pad(states: &mut [u64], position: usize, strength: Strength)
+    requires { (length states.old ≡ 100) × (position ≤ strength.rate) }
+    ensures { Sponges (λ _ s. model.pad permuted strength.rate s intermediate_domain) states.old position states.new 0 }
 {
-    let at = next_position(states, position, rate);
+    let at = next_position(states, position, strength);
     xor_bytes(states, at, tree::INTERMEDIATE_NODE);
-    xor_bytes(states, rate - 1, 0x80);
+    xor_bytes(states, strength.rate - 1, 0x80);
     let padded = abreast::permute_in_place(states, turboshake::ROUNDS);
 }
 
@@ -91,35 +89,31 @@ fn state(states: &[u64], j: usize) -> [u64; 25]
     ensures { result ≡ state_at j states.now }
 {
     let mut lanes = [0u64; 25];
-    let mut i: usize = 0;
-    while i < 25 {
+    for i in 0..25 {
         lanes[i] = states[4 * i + j];
-        i += 1;
     }
     lanes
 }
 
 // Absorbs as many bytes of each of the first `count` states as `value` holds into the final node, and answers its position.
 fn absorb_values(
-    rate: usize,
+    strength: Strength,
     node: &mut [u64; 25],
     position: usize,
     states: &[u64],
     count: usize,
     value: &mut [u8],
 ) -> usize
-    requires rate_nonzero { (0 < rate) × (rate ≤ 200) × (position ≤ rate) × (length states.now ≡ 100) × (count ≤ 4) }
+    requires position_bound { (position ≤ strength.rate) × (length states.now ≡ 100) × (count ≤ 4) }
     requires value_len_bound { (length value.old ≤ 200) × (length value.old % 8 ≡ 0) }
-    ensures upper_bound { result ≤ rate }
-    ensures result_after { record { value = node.new; position = result } ≡ absorb_bytes permuted rate (record { value = node.old; position = position }) (states_bytes (length value.entry.now) states.now count 0) }
+    ensures upper_bound { result ≤ strength.rate }
+    ensures result_after { record { value = node.new; position = result } ≡ absorb_bytes permuted strength.rate (record { value = node.old; position = position }) (states_bytes (length value.entry.now) states.now count 0) }
 {
     let mut p = position;
-    let mut j: usize = 0;
-    while j < count {
+    for j in 0..count {
         let read = sponge::four::read(states, j, value);
-        let absorbed = sponge::absorb(node, p, rate, turboshake::ROUNDS, value);
+        let absorbed = sponge::absorb(node, p, strength.rate, turboshake::ROUNDS, value);
         p = absorbed.position;
-        j += 1;
     }
     p
 }
@@ -127,7 +121,7 @@ fn absorb_values(
 // Ends four leaves, absorbs the chaining values of the first `count`, each as long as `value`, into the final node, clears the slice, and answers the
 // final node's position.
 fn close(
-    rate: usize,
+    strength: Strength,
     node: &mut [u64; 25],
     position: usize,
     states: &mut [u64],
@@ -135,39 +129,39 @@ fn close(
     count: usize,
     value: &mut [u8],
 ) -> usize
-    requires rate_nonzero { (0 < rate) × (rate ≤ 200) × (position ≤ rate) × (at ≤ rate) × (length states.old ≡ 100) × (count ≤ 4) }
-    requires value_len_bound { (length value.old ≤ rate) × (length value.old % 8 ≡ 0) }
-    ensures states_after { (states.new ≡ cleared) × (result ≤ rate) }
-    ensures result_after { record { value = node.new; position = result } ≡ absorb_bytes permuted rate (record { value = node.old; position = position }) (open_values rate (length value.entry.now) states.old at count 0) }
+    requires position_bound { (position ≤ strength.rate) × (at ≤ strength.rate) × (length states.old ≡ 100) × (count ≤ 4) }
+    requires value_len_bound { (length value.old ≤ strength.rate) × (length value.old % 8 ≡ 0) }
+    ensures states_after { (states.new ≡ cleared) × (result ≤ strength.rate) }
+    ensures result_after { record { value = node.new; position = result } ≡ absorb_bytes permuted strength.rate (record { value = node.old; position = position }) (open_values strength.rate (length value.entry.now) states.old at count 0) }
 {
-    pad(states, at, rate);
-    let valued = absorb_values(rate, node, position, states, count, value);
+    pad(states, at, strength);
+    let valued = absorb_values(strength, node, position, states, count, value);
     abreast::clear(states);
     valued
 }
 
 // Absorbs the chaining values of four chunks in a row, each as long as `value`, into the final node, and answers its position.
 pub(crate) fn absorb_four(
-    rate: usize,
+    strength: Strength,
     node: &mut [u64; 25],
     position: usize,
     chunks: &[u8],
     states: &mut [u64],
     value: &mut [u8],
 ) -> usize
-    requires rate_nonzero { (0 < rate) × (rate ≤ 200) × (rate % 8 ≡ 0) × (position ≤ rate) }
-    requires chunks_len { (length chunks.now ≡ 32768) × (states.old ≡ cleared) × (length value.old ≤ rate) × (length value.old % 8 ≡ 0) }
-    ensures upper_bound { (result ≤ rate) × (states.new ≡ cleared) }
-    ensures result_after { record { value = node.new; position = result } ≡ absorb_bytes permuted rate (record { value = node.old; position = position }) (values_of rate (length value.entry.now) 4 chunks.now) }
+    requires position_bound { position ≤ strength.rate }
+    requires chunks_len { (length chunks.now ≡ 32768) × (states.old ≡ cleared) × (length value.old ≤ strength.rate) × (length value.old % 8 ≡ 0) }
+    ensures upper_bound { (result ≤ strength.rate) × (states.new ≡ cleared) }
+    ensures result_after { record { value = node.new; position = result } ≡ absorb_bytes permuted strength.rate (record { value = node.old; position = position }) (values_of strength.rate (length value.entry.now) 4 chunks.now) }
 {
-    let at = absorb_chunks(states, rate, chunks);
-    close(rate, node, position, states, at, 4, value)
+    let at = absorb_chunks(states, strength, chunks);
+    close(strength, node, position, states, at, 4, value)
 }
 
 // The same where nothing may follow the four chunks: three values go into the final node, and the fourth chunk stays open in the leaf. Its state is
 // taken out of the slice before the padding.
 pub(crate) fn absorb_open(
-    rate: usize,
+    strength: Strength,
     node: &mut [u64; 25],
     position: usize,
     leaf: &mut [u64; 25],
@@ -175,16 +169,16 @@ pub(crate) fn absorb_open(
     states: &mut [u64],
     value: &mut [u8],
 ) -> FourOpen
-    requires rate_nonzero { (0 < rate) × (rate ≤ 200) × (rate % 8 ≡ 0) × (position ≤ rate) }
-    requires chunks_len { (length chunks.now ≡ 32768) × (states.old ≡ cleared) × (length value.old ≤ rate) × (length value.old % 8 ≡ 0) }
-    ensures leaf_after { record { value = leaf.new; position = result.leaf } ≡ absorb_bytes permuted rate fresh (chunk_at 3 chunks.now) }
-    ensures node_le_rate { (result.node ≤ rate) × (result.leaf ≤ rate) × (states.new ≡ cleared) }
-    ensures node_after { record { value = node.new; position = result.node } ≡ absorb_bytes permuted rate (record { value = node.old; position = position }) (values_of rate (length value.entry.now) 3 chunks.now) }
+    requires position_bound { position ≤ strength.rate }
+    requires chunks_len { (length chunks.now ≡ 32768) × (states.old ≡ cleared) × (length value.old ≤ strength.rate) × (length value.old % 8 ≡ 0) }
+    ensures leaf_after { record { value = leaf.new; position = result.leaf } ≡ absorb_bytes permuted strength.rate fresh (chunk_at 3 chunks.now) }
+    ensures node_le_rate { (result.node ≤ strength.rate) × (result.leaf ≤ strength.rate) × (states.new ≡ cleared) }
+    ensures node_after { record { value = node.new; position = result.node } ≡ absorb_bytes permuted strength.rate (record { value = node.old; position = position }) (values_of strength.rate (length value.entry.now) 3 chunks.now) }
 {
-    let at = absorb_chunks(states, rate, chunks);
+    let at = absorb_chunks(states, strength, chunks);
     let lanes = state(states, 3);
     *leaf = lanes;
-    let valued = close(rate, node, position, states, at, 3, value);
+    let valued = close(strength, node, position, states, at, 3, value);
     FourOpen {
         node: valued,
         leaf: at,

@@ -1,26 +1,26 @@
 // KT128 and KT256: draft-irtf-cfrg-kangarootwelve-16, section 3, in one go and in pieces. HopMAC128 and HopMAC256, section 4, in one go,
 // and their tag check.
 //
-// A type for each strength, whose calls stand in `strength128` and `strength256`; what they share stands in `by_value`, `calls`, `reached`, `totals`, `tree`, `fours`, `leaves`,
-// `one_go`, `encode` and `hopmac`, over the rate, the length of a chaining value and that of an inner digest.
+// A type for each strength, whose calls are those of the traits `Kt` and `HopMac`. What they call takes a `Strength`, the rate and the length of a chaining
+// value.
 #![tactic(auto)]
 
-mod by_value;
 mod calls;
-mod encode;
 mod fours;
 mod hopmac;
+mod kt;
 mod leaves;
 mod one_go;
 mod reached;
-mod strength128;
-mod strength256;
 mod totals;
 mod tree;
 
-ghost use Rattle.std.specs.Prelude.{◌≡◌, length};
+ghost use Rattle.std.specs.Prelude.{◌≡◌, ◌<◌, ◌≤◌, ◌%◌, drop};
 ghost use Rattle.kangarootwelve.specs.Model.{encoding_of};
-ghost use Rattle.kangarootwelve.specs.Mac.{mac_status, mac_output, same_bytes, verdict_of};
+ghost use Rattle.kangarootwelve.specs.Mac.{same_bytes};
+
+pub use hopmac::HopMac;
+pub use kt::Kt;
 
 // The phases of a run.
 const ABSORBING: u8 = 0;
@@ -69,6 +69,14 @@ pub struct Run {
     pub permutations: u64,
 }
 
+// What the strengths differ in: the rate and the length of a chaining value, in bytes. Both are whole words, and a value fits a block.
+#[derive(Clone, Copy)]
+struct Strength {
+    rate: usize,
+    chaining: usize,
+    ghost bounds: { (0 < rate) × (rate ≤ 200) × (rate % 8 ≡ 0) × (0 < chaining) × (chaining ≤ 64) × (chaining % 8 ≡ 0) × (chaining ≤ rate) },
+}
+
 // What a run holds beside its lanes: the two positions, the phase, the totals and the permutations.
 #[derive(Clone, Copy)]
 struct Progress {
@@ -81,17 +89,10 @@ struct Progress {
     permutations: u64,
 }
 
-// What a call leaves of a run beside its lanes, and its status.
+// What a call leaves of a run beside its lanes, and its status. Kept: one equation says what a call answers, done or refused, which a Result would split.
 #[derive(Clone, Copy)]
 struct Moved {
     at: Progress,
-    status: u8,
-}
-
-// What a call answers, whatever the strength.
-#[derive(Clone, Copy)]
-struct Answered {
-    run: Run,
     status: u8,
 }
 
@@ -117,23 +118,10 @@ pub struct Kt128 {
     pub run: Run,
 }
 
-// What a call answers: the status, and the run, which is the one given where the status is not 0.
-#[derive(Clone, Copy)]
-pub struct Answer128 {
-    pub hasher: Kt128,
-    pub status: u8,
-}
-
 // A run of KT256.
 #[derive(Clone, Copy)]
 pub struct Kt256 {
     pub run: Run,
-}
-
-#[derive(Clone, Copy)]
-pub struct Answer256 {
-    pub hasher: Kt256,
-    pub status: u8,
 }
 
 // HopMAC128: the draft's section 4.
@@ -151,6 +139,16 @@ pub struct LengthEncoding {
     pub start: usize,
 }
 
+impl LengthEncoding {
+    // The encoding itself: the bytes from `start` on.
+    pub fn as_slice(&self) -> &[u8]
+        ensures { result.now ≡ drop self.now.start self.now.bytes }
+    {
+        &self.bytes[self.start.min(9)..]
+    }
+}
+
+// Kept: `verdict_of` in specs/Mac.antt fixes both fields.
 // What the tag check answers: the status, and whether the presented tag is right, document 01's yes and no.
 #[derive(Clone, Copy)]
 pub struct Verdict {
@@ -163,7 +161,15 @@ pub fn length_encode(x: u64) -> LengthEncoding
     ensures { result ≡ encoding_of x }
 {
     let mut bytes = [0u8; 9];
-    let start = encode::length_encode(x, &mut bytes);
+    let mut start = 8;
+    let mut rest = x;
+    // Kept: the loop counts no index; it takes the digits off the number, the last one first.
+    while 0 < rest {
+        start -= 1;
+        bytes[start] = (rest % 256) as u8;
+        rest /= 256;
+    }
+    bytes[8] = (8 - start) as u8;
     LengthEncoding { bytes, start }
 }
 
@@ -175,76 +181,4 @@ pub fn is_same(a: &[u8], b: &[u8]) -> bool
         return false;
     }
     hopmac::is_same(a, b)
-}
-
-impl HopMac128 {
-    // The bytes of the inner digest.
-    pub const INNER: usize = 32;
-
-    // The tag of a message and a customization string under the key: as many bytes as `out` holds.
-    pub fn tag(key: &[u8], message: &[u8], customization: &[u8], out: &mut [u8]) -> u8
-        ensures value { result ≡ mac_status (length key.now) (length message.now) (length customization.now) (length out.old) }
-        ensures out_after { out.new ≡ mac_output 168 32 32 key.now message.now customization.now out.old }
-    {
-        hopmac::tag(
-            Kt128::RATE,
-            Kt128::CHAINING,
-            Self::INNER,
-            key,
-            message,
-            customization,
-            out,
-        )
-    }
-
-    // Whether the presented tag, of 1 to 64 bytes, is that of the message and the customization string under the key.
-    pub fn verify(key: &[u8], message: &[u8], customization: &[u8], presented: &[u8]) -> Verdict
-        ensures { result ≡ verdict_of 168 32 32 key.now message.now customization.now presented.now }
-    {
-        hopmac::verify(
-            Kt128::RATE,
-            Kt128::CHAINING,
-            Self::INNER,
-            key,
-            message,
-            customization,
-            presented,
-        )
-    }
-}
-
-impl HopMac256 {
-    // The bytes of the inner digest.
-    pub const INNER: usize = 64;
-
-    // The tag of a message and a customization string under the key: as many bytes as `out` holds.
-    pub fn tag(key: &[u8], message: &[u8], customization: &[u8], out: &mut [u8]) -> u8
-        ensures value { result ≡ mac_status (length key.now) (length message.now) (length customization.now) (length out.old) }
-        ensures out_after { out.new ≡ mac_output 136 64 64 key.now message.now customization.now out.old }
-    {
-        hopmac::tag(
-            Kt256::RATE,
-            Kt256::CHAINING,
-            Self::INNER,
-            key,
-            message,
-            customization,
-            out,
-        )
-    }
-
-    // Whether the presented tag, of 1 to 64 bytes, is that of the message and the customization string under the key.
-    pub fn verify(key: &[u8], message: &[u8], customization: &[u8], presented: &[u8]) -> Verdict
-        ensures { result ≡ verdict_of 136 64 64 key.now message.now customization.now presented.now }
-    {
-        hopmac::verify(
-            Kt256::RATE,
-            Kt256::CHAINING,
-            Self::INNER,
-            key,
-            message,
-            customization,
-            presented,
-        )
-    }
 }

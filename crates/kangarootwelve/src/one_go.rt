@@ -8,7 +8,7 @@ ghost use Rattle.kangarootwelve.specs.Published.{intermediate_domain};
 ghost use Rattle.kangarootwelve.specs.Model.{hash_status, hash_output, abreast_status, abreast_output, states_after};
 ghost use Rattle.kangarootwelve.specs.Inside.{ended_chunk, ended_chunks};
 
-use crate::{CUSTOMIZATION_LIMIT, Place, fours, tree};
+use crate::{CUSTOMIZATION_LIMIT, Place, Strength, fours, tree};
 use sponge::status;
 use turboshake::{MESSAGE_LIMIT, OUTPUT_LIMIT};
 
@@ -32,82 +32,71 @@ pub(crate) fn hash_status(message: u64, customization: u64, asked: u64) -> u8
 
 // Absorbs the chaining value of a chunk, as long as `value`, into the final node, and answers the final node's position.
 fn absorb_leaf(
-    rate: usize,
+    strength: Strength,
     node: &mut [u64; 25],
     position: usize,
     leaf: &[u8],
     value: &mut [u8],
 ) -> usize
-    requires { (0 < rate) × (rate ≤ 200) × (position ≤ rate) × (length leaf.now ≤ 8192) × (0 < length value.old) × (length value.old ≤ 64) }
-    ensures { record { value = node.new; position = result } ≡ absorb_bytes permuted rate (record { value = node.old; position = position }) (turboshake rate leaf.now intermediate_domain (length value.entry.now)) }
+    requires { (position ≤ strength.rate) × (length leaf.now ≤ 8192) × (0 < length value.old) × (length value.old ≤ 64) }
+    ensures { record { value = node.new; position = result } ≡ absorb_bytes permuted strength.rate (record { value = node.old; position = position }) (turboshake strength.rate leaf.now intermediate_domain (length value.entry.now)) }
 {
-    let hashed = turboshake::hash_at_rate(rate, leaf, tree::INTERMEDIATE_NODE, value);
-    let absorbed = sponge::absorb(node, position, rate, turboshake::ROUNDS, value);
+    let hashed = turboshake::hash_at_rate(strength.rate, leaf, tree::INTERMEDIATE_NODE, value);
+    let absorbed = sponge::absorb(node, position, strength.rate, turboshake::ROUNDS, value);
     absorbed.position
 }
 
 // Absorbs chunk `index` of the message, of which another follows, and answers the final node's position.
 fn absorb_chunk(
-    rate: usize,
-    chaining: usize,
+    strength: Strength,
     node: &mut [u64; 25],
     position: usize,
     index: usize,
     part: &[u8],
 ) -> usize
-    requires { (0 < rate) × (rate ≤ 200) × (0 < chaining) × (chaining ≤ 64) × (position ≤ rate) × (length part.now ≤ 8192) }
-    ensures upper_bound { result ≤ rate }
-    ensures index_after { record { final = record { value = node.new; position = result }; leaf = fresh; index = suc index } ≡ ended_chunk rate chaining (record { final = record { value = node.old; position = position }; leaf = fresh; index = index }) part.now }
+    requires { (position ≤ strength.rate) × (length part.now ≤ 8192) }
+    ensures upper_bound { result ≤ strength.rate }
+    ensures index_after { record { final = record { value = node.new; position = result }; leaf = fresh; index = suc index } ≡ ended_chunk strength.rate strength.chaining (record { final = record { value = node.old; position = position }; leaf = fresh; index = index }) part.now }
 {
     if index == 0 {
-        let first = sponge::absorb(node, position, rate, turboshake::ROUNDS, part);
+        let first = sponge::absorb(node, position, strength.rate, turboshake::ROUNDS, part);
         let marker = tree::MARKER;
-        let marked = sponge::absorb(node, first.position, rate, turboshake::ROUNDS, &marker);
+        let marked = sponge::absorb(
+            node,
+            first.position,
+            strength.rate,
+            turboshake::ROUNDS,
+            &marker,
+        );
         return marked.position;
     }
     let mut value = [0u8; 64];
-    absorb_leaf(rate, node, position, part, &mut value[0..chaining])
+    absorb_leaf(
+        strength,
+        node,
+        position,
+        part,
+        &mut value[0..strength.chaining],
+    )
 }
 
 // Absorbs the first chunks of the message, `count` of them, each where it lies, and answers the final node's position.
-fn absorb_chunks(
-    rate: usize,
-    chaining: usize,
-    node: &mut [u64; 25],
-    message: &[u8],
-    count: usize,
-) -> usize
-    requires { (0 < rate) × (rate ≤ 200) × (0 < chaining) × (chaining ≤ 64) × (count * 8192 ≤ length message.now) }
-    ensures upper_bound { result ≤ rate }
-    ensures count_after { record { final = record { value = node.new; position = result }; leaf = fresh; index = count } ≡ ended_chunks rate chaining count (record { final = record { value = node.old; position = 0 }; leaf = fresh; index = 0 }) message.now }
+fn absorb_chunks(strength: Strength, node: &mut [u64; 25], message: &[u8], count: usize) -> usize
+    requires { count * 8192 ≤ length message.now }
+    ensures upper_bound { result ≤ strength.rate }
+    ensures count_after { record { final = record { value = node.new; position = result }; leaf = fresh; index = count } ≡ ended_chunks strength.rate strength.chaining count (record { final = record { value = node.old; position = 0 }; leaf = fresh; index = 0 }) message.now }
 {
     let mut p = 0;
-    let mut i = 0;
-    while i < count {
+    for i in 0..count {
         let from = i * tree::CHUNK;
-        p = absorb_chunk(
-            rate,
-            chaining,
-            node,
-            p,
-            i,
-            &message[from..from + tree::CHUNK],
-        );
-        i += 1;
+        p = absorb_chunk(strength, node, p, i, &message[from..from + tree::CHUNK]);
     }
     p
 }
 
-pub(crate) fn hash(
-    rate: usize,
-    chaining: usize,
-    message: &[u8],
-    customization: &[u8],
-    out: &mut [u8],
-) -> u8
-    requires { (0 < rate) × (rate ≤ 200) × (0 < chaining) × (chaining ≤ 64) }
+pub(crate) fn hash(strength: Strength, message: &[u8], customization: &[u8], out: &mut [u8]) -> u8
     ensures value { result ≡ hash_status (length message.now) (length customization.now) (length out.old) }
-    ensures out_after { out.new ≡ hash_output rate chaining message.now customization.now out.old }
+    ensures out_after { out.new ≡ hash_output strength.rate strength.chaining message.now customization.now out.old }
 {
     let refusal = hash_status(
         message.len() as u64,
@@ -120,7 +109,7 @@ pub(crate) fn hash(
     let whole = message.len() / tree::CHUNK;
     let mut node = [0u64; 25];
     let mut leaf = [0u64; 25];
-    let position = absorb_chunks(rate, chaining, &mut node, message, whole);
+    let position = absorb_chunks(strength, &mut node, message, whole);
     let at = Place {
         node: position,
         leaf: 0,
@@ -128,24 +117,22 @@ pub(crate) fn hash(
         position: 0,
     };
     let from = whole * tree::CHUNK;
-    let last = tree::absorb(rate, chaining, &mut node, &mut leaf, at, &message[from..]);
-    tree::finalize(rate, chaining, &mut node, &mut leaf, last, customization);
-    let squeezed = sponge::squeeze(&mut node, 0, rate, turboshake::ROUNDS, out);
+    let last = tree::absorb(strength, &mut node, &mut leaf, at, &message[from..]);
+    tree::finalize(strength, &mut node, &mut leaf, last, customization);
+    let squeezed = sponge::squeeze(&mut node, 0, strength.rate, turboshake::ROUNDS, out);
     squeezed.status
 }
 
 // The same with every four leaves that lie whole in the message, from S_1 on, abreast in the lent words.
 pub(crate) fn hash_abreast(
-    rate: usize,
-    chaining: usize,
+    strength: Strength,
     message: &[u8],
     customization: &[u8],
     out: &mut [u8],
     states: &mut [u64],
 ) -> u8
-    requires { (0 < rate) × (rate ≤ 200) × (chaining ≤ 64) × (rate % 8 ≡ 0) × (chaining % 8 ≡ 0) × (chaining ≤ rate) }
     ensures value { result ≡ abreast_status (length states.old) (length message.now) (length customization.now) (length out.old) }
-    ensures out_after { out.new ≡ abreast_output rate chaining (length states.old) message.now customization.now out.old }
+    ensures out_after { out.new ≡ abreast_output strength.rate strength.chaining (length states.old) message.now customization.now out.old }
     ensures states_after { states.new ≡ states_after result states.old }
 {
     if states.len() != 100 {
@@ -163,8 +150,8 @@ pub(crate) fn hash_abreast(
     let mut node = [0u64; 25];
     let mut leaf = [0u64; 25];
     let first = tree::opened(0, 0);
-    let last = fours::absorb(rate, chaining, &mut node, &mut leaf, first, message, states);
-    tree::finalize(rate, chaining, &mut node, &mut leaf, last, customization);
-    let squeezed = sponge::squeeze(&mut node, 0, rate, turboshake::ROUNDS, out);
+    let last = fours::absorb(strength, &mut node, &mut leaf, first, message, states);
+    tree::finalize(strength, &mut node, &mut leaf, last, customization);
+    let squeezed = sponge::squeeze(&mut node, 0, strength.rate, turboshake::ROUNDS, out);
     squeezed.status
 }

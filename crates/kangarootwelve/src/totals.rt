@@ -7,7 +7,7 @@ ghost use Rattle.kangarootwelve.specs.Published.{chunk, length_encode};
 ghost use Rattle.kangarootwelve.specs.Transcript.{customization_limit};
 ghost use Rattle.kangarootwelve.specs.Count.{tree_count, closed_tree, open_kt, closed_kt};
 
-use crate::tree;
+use crate::{Strength, tree};
 
 // The position after n bytes in pieces of r: a full piece is left full.
 pub(crate) fn position_after(r: usize, n: u64) -> usize
@@ -31,22 +31,21 @@ pub(crate) fn index_after(n: u64) -> u64
 }
 
 // The permutations of a node that absorbed n bytes: a full block is permuted when its next byte arrives.
-fn open_count(rate: usize, n: u64) -> u64
-    requires { 0 < rate }
-    ensures { (result ≡ open_count rate n) × (result ≤ n) }
+fn open_count(strength: Strength, n: u64) -> u64
+    ensures { (result ≡ open_count strength.rate n) × (result ≤ n) }
 {
     if n == 0 {
         return 0;
     }
-    (n - 1) / (rate as u64)
+    (n - 1) / (strength.rate as u64)
 }
 
 // Those of one that is closed after m bytes, with n squeezed.
-fn closed_count(rate: usize, m: u64, n: u64) -> u64
-    requires { (0 < rate) × (m ≤ 2 ^ 40) × (n ≤ 2 ^ 40) }
-    ensures { (result ≡ closed_count rate m n) × (result ≤ m + n + 1) }
+fn closed_count(strength: Strength, m: u64, n: u64) -> u64
+    requires { (m ≤ 2 ^ 40) × (n ≤ 2 ^ 40) }
+    ensures { (result ≡ closed_count strength.rate m n) × (result ≤ m + n + 1) }
 {
-    m / (rate as u64) + 1 + open_count(rate, n)
+    m / (strength.rate as u64) + 1 + open_count(strength, n)
 }
 
 // The bytes of length_encode of a number of 24 bits.
@@ -67,70 +66,68 @@ fn encoded_bytes(x: u64) -> u64
 }
 
 // The bytes of the final node once k chaining values are in.
-pub(crate) fn node_bytes(chaining: usize, k: u64) -> u64
-    requires { (chaining ≤ 64) × (k ≤ customization_limit) }
-    ensures { (result ≡ chunk + 8 + k * chaining) × (result ≤ 2 ^ 39) }
+pub(crate) fn node_bytes(strength: Strength, k: u64) -> u64
+    requires { k ≤ customization_limit }
+    ensures { (result ≡ chunk + 8 + k * strength.chaining) × (result ≤ 2 ^ 39) }
 {
-    tree::CHUNK as u64 + 8 + k * (chaining as u64)
+    tree::CHUNK as u64 + 8 + k * (strength.chaining as u64)
 }
 
 // Those of k leaves that are closed.
-fn leaves_count(rate: usize, chaining: usize, k: u64) -> u64
-    requires { (0 < rate) × (chaining ≤ 64) × (k ≤ customization_limit) }
-    ensures { (result ≡ k * closed_count rate chunk chaining) × (result ≤ 2 ^ 40) }
+fn leaves_count(strength: Strength, k: u64) -> u64
+    requires { k ≤ customization_limit }
+    ensures { (result ≡ k * closed_count strength.rate chunk strength.chaining) × (result ≤ 2 ^ 40) }
 {
-    k * closed_count(rate, tree::CHUNK as u64, chaining as u64)
+    k * closed_count(strength, tree::CHUNK as u64, strength.chaining as u64)
 }
 
 // Those of a tree with o bytes of chunk q in hand.
-pub(crate) fn tree_count(rate: usize, chaining: usize, q: u64, o: u64) -> u64
-    requires { (0 < rate) × (chaining ≤ 64) × (q ≤ customization_limit) × (o ≤ 8192) }
-    ensures { result ≡ tree_count rate chaining q o }
+pub(crate) fn tree_count(strength: Strength, q: u64, o: u64) -> u64
+    requires { (q ≤ customization_limit) × (o ≤ 8192) }
+    ensures { result ≡ tree_count strength.rate strength.chaining q o }
 {
     if q == 0 {
-        return open_count(rate, o);
+        return open_count(strength, o);
     }
-    open_count(rate, node_bytes(chaining, q - 1))
-        + leaves_count(rate, chaining, q - 1)
-        + open_count(rate, o)
+    open_count(strength, node_bytes(strength, q - 1))
+        + leaves_count(strength, q - 1)
+        + open_count(strength, o)
 }
 
 // Those of one closed so, with j bytes squeezed.
-fn closed_tree(rate: usize, chaining: usize, q: u64, o: u64, j: u64) -> u64
-    requires { (0 < rate) × (chaining ≤ 64) × (q ≤ customization_limit) × (o ≤ 8192) × (j ≤ output_limit) }
-    ensures { result ≡ closed_tree rate chaining q o j }
+fn closed_tree(strength: Strength, q: u64, o: u64, j: u64) -> u64
+    requires { (q ≤ customization_limit) × (o ≤ 8192) × (j ≤ output_limit) }
+    ensures { result ≡ closed_tree strength.rate strength.chaining q o j }
 {
     if q == 0 {
-        return closed_count(rate, o, j);
+        return closed_count(strength, o, j);
     }
-    let node = node_bytes(chaining, q) + encoded_bytes(q) + 2;
-    closed_count(rate, node, j)
-        + leaves_count(rate, chaining, q - 1)
-        + closed_count(rate, o, chaining as u64)
+    let node = node_bytes(strength, q) + encoded_bytes(q) + 2;
+    closed_count(strength, node, j)
+        + leaves_count(strength, q - 1)
+        + closed_count(strength, o, strength.chaining as u64)
 }
 
 // Those of a run with n bytes of M and C, which is not closed.
-pub(crate) fn open_kt(rate: usize, chaining: usize, n: u64) -> u64
-    requires { (0 < rate) × (chaining ≤ 64) × (n ≤ message_limit + customization_limit) }
-    ensures { result ≡ open_kt rate chaining n }
+pub(crate) fn open_kt(strength: Strength, n: u64) -> u64
+    requires { n ≤ message_limit + customization_limit }
+    ensures { result ≡ open_kt strength.rate strength.chaining n }
 {
     tree_count(
-        rate,
-        chaining,
+        strength,
         index_after(n),
         position_after(tree::CHUNK, n) as u64,
     )
 }
 
 // Those of one that is closed, with j bytes squeezed: C has `customized` of the n bytes.
-pub(crate) fn closed_kt(rate: usize, chaining: usize, n: u64, customized: u64, j: u64) -> u64
-    requires { (0 < rate) × (chaining ≤ 64) × (n ≤ message_limit + customization_limit) × (customized ≤ customization_limit) × (j ≤ output_limit) }
-    ensures { result ≡ closed_kt rate chaining n customized j }
+pub(crate) fn closed_kt(strength: Strength, n: u64, customized: u64, j: u64) -> u64
+    requires { (n ≤ message_limit + customization_limit) × (customized ≤ customization_limit) × (j ≤ output_limit) }
+    ensures { result ≡ closed_kt strength.rate strength.chaining n customized j }
 {
     let whole = n + encoded_bytes(customized);
     closed_tree(
-        rate,
-        chaining,
+        strength,
         index_after(whole),
         position_after(tree::CHUNK, whole) as u64,
         j,

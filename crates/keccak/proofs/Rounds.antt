@@ -5,8 +5,9 @@ use mathlib.Core.List.{List}
 use Prim.Native.Nat.{ℕ, ◌+◌, ◌-◌, ◌≤◌, ◌<◌}
 use native.Mathlib.Numerals.{add-one}
 use borrow.Author.Tests.{le-leb, lt-leb}
-use lib.ListN.{length, get_or, drop}
-use lib.Seq.{drop-cons, drop-length}
+use native.Mathlib.Omega.{arith}
+use lib.ListN.{length, get_or, take, drop, length-drop}
+use lib.Seq.{drop-cons, drop-length, take_all}
 use Rattle.keccak.specs.Round.{round}
 use Rattle.keccak.specs.Permutation.{rounds, round_constants, rounds_status, last_rounds}
 
@@ -30,6 +31,12 @@ too_many n h = rw (lt-leb n 24 h)
 pub last_rounds_lem : (n : ℕ) (a : List ℕ) → n ≤ 24 → rounds (drop (24 - n) round_constants) a ≡ last_rounds n a
 unfolding last_rounds
 last_rounds_lem n a h = rw (le-leb n 24 h)
+
+-- the constants of the last n rounds, as a loop over them takes them
+pub last_constants : (n : ℕ) (a : List ℕ) → n ≤ 24 → rounds (take (24 - (24 - n)) (drop (24 - n) round_constants)) a ≡ last_rounds n a
+last_constants n a h =
+    let whole : length (drop (24 - n) round_constants) ≤ 24 - (24 - n) = omega (arith, length-drop (24 - n) round_constants) in
+    ap (λ (l : List ℕ). rounds l a) (take_all (24 - (24 - n)) (drop (24 - n) round_constants) whole) ∙ last_rounds_lem n a h
 
 pub last_none : (n : ℕ) (a : List ℕ) → 24 < n → a ≡ last_rounds n a
 unfolding last_rounds

@@ -9,6 +9,9 @@ ghost use Rattle.keccak.specs.Round as spec;
 
 use crate::{OFFSETS, rotate_left};
 
+// Kept: the steps, beside those of `abreast`. These hold one parity inverted and take an array; those take a slice and a state's number, and invert
+// nothing: they differ in what they compute.
+
 // Five words by their x before pi: theta's D, or plane y, whose lane k stands at x = k + 2 y.
 #[derive(Clone, Copy)]
 struct Plane(u64, u64, u64, u64, u64);
@@ -27,11 +30,11 @@ fn theta_effect(a: &[u64; 25]) -> Plane
     let c3 = a[3] ^ a[8] ^ a[13] ^ a[18] ^ a[23];
     let c4 = a[4] ^ a[9] ^ a[14] ^ a[19] ^ a[24];
     Plane(
-        c4 ^ (c1 << 1 | c1 >> 63),
-        c0 ^ (c2 << 1 | c2 >> 63),
-        c1 ^ (c3 << 1 | c3 >> 63),
-        c2 ^ (c4 << 1 | c4 >> 63),
-        c3 ^ (c0 << 1 | c0 >> 63),
+        c4 ^ c1.rotate_left(1),
+        c0 ^ c2.rotate_left(1),
+        c1 ^ c3.rotate_left(1),
+        c2 ^ c4.rotate_left(1),
+        c3 ^ c0.rotate_left(1),
     )
 }
 

@@ -9,12 +9,15 @@
 mod line;
 mod pieces;
 
-ghost use Rattle.std.specs.Prelude.{◌≤◌, length};
+ghost use Rattle.std.specs.Prelude.{◌≤◌};
 
 use functions::keyed::KeyedFunction;
-use pieces::least;
-use sp800_185::{CShake128, CShake256};
-use std::io;
+use pieces::Inputs;
+use sp800_185::{CShake, CShake128, CShake256};
+use std::{array, io};
+
+// 128 and 8,193: the longest S ends with the buffer.
+const SIZE: usize = 8321;
 
 // Where N or the key, and S, begin in the pattern: NIST's keys are the 32 bytes from the first on. Messages begin where the pattern does.
 const FIRST: usize = 64;
@@ -29,69 +32,44 @@ const OUTPUTS: [u64; 12] = [
     0, 1, 31, 32, 8191, 8192, 2097151, 2097152, 536870911, 536870912, 4294967295, 4294967296,
 ];
 
-// The lengths of N or the key, of S, of the message and of the output.
-#[derive(Clone, Copy)]
-struct Lengths(usize, usize, usize, usize);
-
-// 00 to FA, over and over.
-fn fill(buffer: &mut [u8]) {
-    let mut i: usize = 0;
-    while i < buffer.len() {
-        buffer[i] = (i % 251) as u8;
-        i += 1;
-    }
-}
-
 // The first n bytes, of which the buffer holds as many as are asked.
+// Kept: three lines, as in edges.
 fn pattern(buffer: &[u8], n: usize) -> &[u8] {
-    let k = least(n, buffer.len());
-    &buffer[0..k]
+    &buffer[..n.min(buffer.len())]
 }
 
-fn write_line(
-    rt: &impl Print,
-    function: KeyedFunction,
-    buffer: &[u8],
-    lengths: Lengths,
-) -> io::Result<()>
-    requires { 128 ≤ length buffer.now }
-{
-    let first = pattern(&buffer[FIRST..], lengths.0);
-    let string = pattern(&buffer[STRING..], lengths.1);
-    let message = pattern(buffer, lengths.2);
-    line::write(rt, function, first, string, message, lengths.3)
-}
-
-// The i-th length of N, of the key, of S and of a message: those of the table, and 12 bytes less than a block to 5 more.
-fn length_at(rate: usize, i: usize) -> usize
-    requires { (12 ≤ rate) × (rate ≤ 168) }
-{
-    if i < 11 {
-        return LENGTHS[i];
+// N or the key, S and the message, of these lengths.
+fn inputs(buffer: &[u8; SIZE], first: usize, string: usize, message: usize) -> Inputs {
+    Inputs {
+        first: pattern(&buffer[FIRST..], first),
+        string: pattern(&buffer[STRING..], string),
+        message: pattern(buffer, message),
     }
-    rate - 12 + least(i - 11, 17)
 }
 
 // N or the key, S, and the message, of n bytes.
-fn write_length(rt: &impl Print, function: KeyedFunction, buffer: &[u8], n: usize) -> io::Result<()>
-    requires { 128 ≤ length buffer.now }
-{
-    write_line(rt, function, buffer, Lengths(n, 0, 3, 32))?;
-    write_line(rt, function, buffer, Lengths(4, n, 3, 32))?;
-    write_line(rt, function, buffer, Lengths(4, 5, n, 32))
+fn write_length(
+    rt: &impl Print,
+    function: KeyedFunction,
+    buffer: &[u8; SIZE],
+    n: usize,
+) -> io::Result<()> {
+    line::write(rt, function, inputs(buffer, n, 0, 3), 32)?;
+    line::write(rt, function, inputs(buffer, 4, n, 3), 32)?;
+    line::write(rt, function, inputs(buffer, 4, 5, n), 32)
 }
 
+// The lengths of the table, and 12 bytes less than a block to 5 more.
 fn write_lengths(
     rt: &impl Print,
     function: KeyedFunction,
     rate: usize,
-    buffer: &[u8],
+    buffer: &[u8; SIZE],
 ) -> io::Result<()>
-    requires le_rate { (12 ≤ rate) × (rate ≤ 168) }
-    requires in_bounds { 128 ≤ length buffer.now }
+    requires { (12 ≤ rate) × (rate ≤ 168) }
 {
-    for i in 0..29 {
-        write_length(rt, function, buffer, length_at(rate, i))?;
+    for n in LENGTHS.into_iter().chain(rate - 12..rate + 6) {
+        write_length(rt, function, buffer, n)?;
     }
     Ok(())
 }
@@ -101,44 +79,58 @@ fn write_outputs(
     rt: &impl Print,
     function: KeyedFunction,
     rate: usize,
-    buffer: &[u8],
+    buffer: &[u8; SIZE],
 ) -> io::Result<()>
-    requires le_rate { (12 ≤ rate) × (rate ≤ 168) }
-    requires in_bounds { 128 ≤ length buffer.now }
+    requires { (12 ≤ rate) × (rate ≤ 168) }
 {
-    write_line(rt, function, buffer, Lengths(4, 5, 3, 0))?;
-    write_line(rt, function, buffer, Lengths(4, 5, 3, 1))?;
-    write_line(rt, function, buffer, Lengths(4, 5, 3, rate - 1))?;
-    write_line(rt, function, buffer, Lengths(4, 5, 3, rate))?;
-    write_line(rt, function, buffer, Lengths(4, 5, 3, rate + 1))?;
-    write_line(rt, function, buffer, Lengths(4, 5, 3, 2 * rate - 1))?;
-    write_line(rt, function, buffer, Lengths(4, 5, 3, 2 * rate))?;
-    write_line(rt, function, buffer, Lengths(4, 5, 3, 2 * rate + 1))
-}
-
-fn write_edges(
-    rt: &impl Print,
-    function: KeyedFunction,
-    rate: usize,
-    buffer: &[u8],
-) -> io::Result<()>
-    requires le_rate { (12 ≤ rate) × (rate ≤ 168) }
-    requires in_bounds { 128 ≤ length buffer.now }
-{
-    write_lengths(rt, function, rate, buffer)?;
-    write_outputs(rt, function, rate, buffer)
-}
-
-fn write_closes(
-    rt: &impl Print,
-    function: KeyedFunction,
-    key: &[u8],
-    message: &[u8],
-) -> io::Result<()> {
-    for i in 0..12 {
-        line::write_close(rt, function, key, message, OUTPUTS[i])?;
+    for asked in [
+        0,
+        1,
+        rate - 1,
+        rate,
+        rate + 1,
+        2 * rate - 1,
+        2 * rate,
+        2 * rate + 1,
+    ] {
+        line::write(rt, function, inputs(buffer, 4, 5, 3), asked)?;
     }
     Ok(())
+}
+
+fn write_edges(rt: &impl Print, buffer: &[u8; SIZE]) -> io::Result<()> {
+    for (function, rate) in [
+        (KeyedFunction::CShake128, CShake128::RATE),
+        (KeyedFunction::CShake256, CShake256::RATE),
+        (KeyedFunction::Kmac128, CShake128::RATE),
+        (KeyedFunction::Kmac256, CShake256::RATE),
+        (KeyedFunction::KmacXof128, CShake128::RATE),
+        (KeyedFunction::KmacXof256, CShake256::RATE),
+    ] {
+        write_lengths(rt, function, rate, buffer)?;
+        write_outputs(rt, function, rate, buffer)?;
+    }
+    Ok(())
+}
+
+fn write_closes(rt: &impl Print, function: KeyedFunction, buffer: &[u8; SIZE]) -> io::Result<()> {
+    for output in OUTPUTS {
+        line::write_close(rt, function, inputs(buffer, 32, 0, 3), output)?;
+    }
+    Ok(())
+}
+
+// One of NIST's samples: the pattern, but that S is a text.
+fn write_sample(
+    rt: &impl Print,
+    function: KeyedFunction,
+    pattern: Inputs,
+    string: &[u8],
+    asked: usize,
+) -> io::Result<()>
+    requires { asked ≤ 337 }
+{
+    line::write(rt, function, Inputs { string, ..pattern }, asked)
 }
 
 // NIST's samples of KMAC or KMACXOF, and of cSHAKE.
@@ -146,68 +138,49 @@ fn write_kmac_samples(
     rt: &impl Print,
     weaker: KeyedFunction,
     stronger: KeyedFunction,
-    buffer: &[u8],
-) -> io::Result<()>
-    requires { 200 ≤ length buffer.now }
-{
-    let key = &buffer[FIRST..96];
+    buffer: &[u8; SIZE],
+) -> io::Result<()> {
     let string = b"My Tagged Application";
-    let short = &buffer[0..4];
-    let long = &buffer[0..200];
-    line::write(rt, weaker, key, b"", short, 32)?;
-    line::write(rt, weaker, key, string, short, 32)?;
-    line::write(rt, weaker, key, string, long, 32)?;
-    line::write(rt, stronger, key, string, short, 64)?;
-    line::write(rt, stronger, key, b"", long, 64)?;
-    line::write(rt, stronger, key, string, long, 64)
+    let short = inputs(buffer, 32, 0, 4);
+    let long = inputs(buffer, 32, 0, 200);
+    write_sample(rt, weaker, short, b"", 32)?;
+    write_sample(rt, weaker, short, string, 32)?;
+    write_sample(rt, weaker, long, string, 32)?;
+    write_sample(rt, stronger, short, string, 64)?;
+    write_sample(rt, stronger, long, b"", 64)?;
+    write_sample(rt, stronger, long, string, 64)
 }
 
-fn write_cshake_samples(rt: &impl Print, buffer: &[u8]) -> io::Result<()>
-    requires { 200 ≤ length buffer.now }
-{
-    let string = b"Email Signature";
-    let short = &buffer[0..4];
-    let long = &buffer[0..200];
-    line::write(rt, KeyedFunction::CShake128, b"", string, short, 32)?;
-    line::write(rt, KeyedFunction::CShake128, b"", string, long, 32)?;
-    line::write(rt, KeyedFunction::CShake256, b"", string, short, 64)?;
-    line::write(rt, KeyedFunction::CShake256, b"", string, long, 64)
-}
-
-fn write_all(rt: &impl Print, buffer: &[u8]) -> io::Result<()>
-    requires { 200 ≤ length buffer.now }
-{
-    write_kmac_samples(rt, KeyedFunction::Kmac128, KeyedFunction::Kmac256, buffer)?;
-    write_kmac_samples(
-        rt,
-        KeyedFunction::KmacXof128,
-        KeyedFunction::KmacXof256,
-        buffer,
-    )?;
-    write_cshake_samples(rt, buffer)?;
-    write_edges(rt, KeyedFunction::CShake128, CShake128::RATE, buffer)?;
-    write_edges(rt, KeyedFunction::CShake256, CShake256::RATE, buffer)?;
-    write_edges(rt, KeyedFunction::Kmac128, CShake128::RATE, buffer)?;
-    write_edges(rt, KeyedFunction::Kmac256, CShake256::RATE, buffer)?;
-    write_edges(rt, KeyedFunction::KmacXof128, CShake128::RATE, buffer)?;
-    write_edges(rt, KeyedFunction::KmacXof256, CShake256::RATE, buffer)?;
-    write_closes(
-        rt,
-        KeyedFunction::Kmac128,
-        &buffer[FIRST..96],
-        &buffer[0..3],
-    )?;
-    write_closes(
-        rt,
-        KeyedFunction::Kmac256,
-        &buffer[FIRST..96],
-        &buffer[0..3],
-    )
+fn write_cshake_samples(rt: &impl Print, buffer: &[u8; SIZE]) -> io::Result<()> {
+    for (function, asked) in [
+        (KeyedFunction::CShake128, 32),
+        (KeyedFunction::CShake256, 64),
+    ] {
+        for message in [4, 200] {
+            write_sample(
+                rt,
+                function,
+                inputs(buffer, 0, 0, message),
+                b"Email Signature",
+                asked,
+            )?;
+        }
+    }
+    Ok(())
 }
 
 fn main(rt: HostRuntime) -> io::Result<()> {
-    // 128 and 8,193: the longest S ends with the buffer
-    let mut buffer = [0u8; 8321];
-    fill(&mut buffer);
-    write_all(&rt, &buffer)
+    // 00 to FA, over and over
+    let buffer: [u8; SIZE] = array::from_fn(|i| (i % 251) as u8);
+    write_kmac_samples(&rt, KeyedFunction::Kmac128, KeyedFunction::Kmac256, &buffer)?;
+    write_kmac_samples(
+        &rt,
+        KeyedFunction::KmacXof128,
+        KeyedFunction::KmacXof256,
+        &buffer,
+    )?;
+    write_cshake_samples(&rt, &buffer)?;
+    write_edges(&rt, &buffer)?;
+    write_closes(&rt, KeyedFunction::Kmac128, &buffer)?;
+    write_closes(&rt, KeyedFunction::Kmac256, &buffer)
 }

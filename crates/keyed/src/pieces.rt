@@ -1,82 +1,80 @@
 // A run in pieces.
-ghost use Rattle.std.specs.Prelude.{◌≡◌, min};
-
 use functions::keyed::{KeyedAnswer, KeyedFunction, KeyedRun};
+use hasher::{HasherAnswer, Refusal};
 use sponge::status::DONE;
 
 const PIECE: usize = 7;
 
 const OUTPUT_PIECE: usize = 5;
 
-pub fn least(x: usize, y: usize) -> usize
-    ensures { result ≡ min x y }
-{
-    if x < y { x } else { y }
+// N or the key, S, and the message.
+#[derive(Clone, Copy)]
+pub struct Inputs<'a> {
+    pub first: &'a [u8],
+    pub string: &'a [u8],
+    pub message: &'a [u8],
 }
 
-// Absorbs the message in pieces, and stops at a call that is refused.
-fn absorb_message(function: KeyedFunction, keyed: KeyedRun, message: &[u8]) -> KeyedAnswer {
-    let mut answer = KeyedAnswer {
-        keyed,
-        status: DONE,
-    };
-    let mut i: usize = 0;
-    while i < message.len() && answer.status == DONE {
-        let k = least(message.len() - i, PIECE);
-        let given = answer.keyed;
-        answer = functions::keyed::absorb(function, given, &message[i..i + k]);
-        i += k;
-    }
-    answer
+// Kept: a crate with its contract and edits for what the programs share would be longer.
+fn done(status: u8) -> Result<(), Refusal> {
+    HasherAnswer { hasher: (), status }.done()
 }
 
-// Fills `out` in pieces, and stops at a call that is refused.
-fn squeeze_output(function: KeyedFunction, keyed: KeyedRun, out: &mut [u8]) -> KeyedAnswer {
-    let mut answer = KeyedAnswer {
-        keyed,
-        status: DONE,
-    };
-    let mut i: usize = 0;
-    while i < out.len() && answer.status == DONE {
-        let k = least(out.len() - i, OUTPUT_PIECE);
-        let given = answer.keyed;
-        answer = functions::keyed::squeeze(function, given, &mut out[i..i + k]);
-        i += k;
+// The status of the first call that was refused, or 0.
+// Kept: a number, since the line has it.
+pub fn status_of(calls: Result<(), Refusal>) -> u8 {
+    match calls {
+        Ok(()) => DONE,
+        Err(refusal) => refusal.status,
     }
-    answer
+}
+
+#[derive(Clone, Copy)]
+pub struct Run {
+    function: KeyedFunction,
+    keyed: KeyedRun,
+}
+
+impl Run {
+    fn keep(&mut self, answer: KeyedAnswer) -> Result<(), Refusal> {
+        self.keyed = answer.keyed;
+        done(answer.status)
+    }
+
+    fn absorb(&mut self, piece: &[u8]) -> Result<(), Refusal> {
+        self.keep(functions::keyed::absorb(self.function, self.keyed, piece))
+    }
+
+    fn finalize(&mut self, output: u64) -> Result<(), Refusal> {
+        self.keep(functions::keyed::finalize(self.function, self.keyed, output))
+    }
+
+    pub fn squeeze(&mut self, out: &mut [u8]) -> Result<(), Refusal> {
+        self.keep(functions::keyed::squeeze(self.function, self.keyed, out))
+    }
+
+    fn close(&mut self, message: &[u8], output: u64) -> Result<(), Refusal> {
+        for piece in message.chunks(PIECE) {
+            self.absorb(piece)?;
+        }
+        self.finalize(output)
+    }
+
+    pub fn squeeze_pieces(&mut self, out: &mut [u8]) -> Result<(), Refusal> {
+        for piece in out.chunks_mut(OUTPUT_PIECE) {
+            self.squeeze(piece)?;
+        }
+        Ok(())
+    }
 }
 
 // The run that has absorbed the message and is closed for so many bytes of output; or that of the first call that is refused.
-pub fn closed(
-    function: KeyedFunction,
-    first: &[u8],
-    string: &[u8],
-    message: &[u8],
-    output: u64,
-) -> KeyedAnswer {
-    let started = functions::keyed::start(function, first, string);
-    if started.status != DONE {
-        return started;
-    }
-    let absorbed = absorb_message(function, started.keyed, message);
-    if absorbed.status != DONE {
-        return absorbed;
-    }
-    functions::keyed::finalize(function, absorbed.keyed, output)
-}
-
-// All in pieces. Answers the status of the first call that is refused, or 0. A squeeze is tried after a refused close too: it must leave `out` as it is.
-pub fn hash(
-    function: KeyedFunction,
-    first: &[u8],
-    string: &[u8],
-    message: &[u8],
-    out: &mut [u8],
-) -> KeyedAnswer {
-    let close = closed(function, first, string, message, out.len() as u64);
-    let squeezed = squeeze_output(function, close.keyed, out);
-    if close.status != DONE {
-        return close;
-    }
-    squeezed
+pub fn closed(function: KeyedFunction, inputs: Inputs, output: u64) -> (Run, Result<(), Refusal>) {
+    let started = functions::keyed::start(function, inputs.first, inputs.string);
+    let mut run = Run {
+        function,
+        keyed: started.keyed,
+    };
+    let calls = done(started.status).and_then(|()| run.close(inputs.message, output));
+    (run, calls)
 }

@@ -1,209 +1,77 @@
-// The records for a run of SP 800-185: op n, which begins one, and those for the one in hand.
-ghost use Rattle.std.specs.Prelude.{◌+◌, ◌*◌, ◌≤◌, length};
-
-use crate::by_number::Chosen;
-use crate::field::OwnField;
-use crate::part::{Part, part_at};
-use crate::session::Session;
-use crate::{by_number, field, line, number, session};
+// A run of SP 800-185, in hand.
+use crate::calls::{Calls, Field};
+use crate::line::Line;
+use crate::payload::Payload;
+use crate::record::BadRecord;
+use crate::sponge_run;
 use functions::keyed::{KeyedAnswer, KeyedFunction, KeyedRun};
-use sponge::status::DONE;
-use std::io;
 
-// The run in hand.
-fn in_hand(session: Session) -> KeyedRun {
-    let run = session.run;
-    KeyedRun {
-        run,
-        shake: session.shake,
-        output_length: session.output_length,
+#[derive(Clone, Copy)]
+pub struct KeyedInHand {
+    pub function: KeyedFunction,
+    pub run: KeyedRun,
+}
+
+impl KeyedInHand {
+    fn keep(&mut self, answer: KeyedAnswer) -> u8 {
+        self.run = answer.keyed;
+        answer.status
     }
 }
 
-fn with_run(session: Session, keyed: KeyedRun) -> Session {
-    let run = keyed.run;
-    let mut next = session;
-    next.run = run;
-    next.shake = keyed.shake;
-    next.output_length = keyed.output_length;
-    next
+// What a run has beside the fields of every run.
+#[derive(Clone, Copy)]
+enum OwnField {
+    Bit,
+    Length,
 }
 
-// The run that a call handed back is in hand.
-fn with_answer(session: Session, answer: KeyedAnswer) -> Session {
-    let keyed = answer.keyed;
-    with_run(session, keyed)
-}
-
-fn answered(rt: &impl Print, session: Session, answer: KeyedAnswer) -> io::Result<Session> {
-    line::write_status(rt, answer.status)?;
-    Ok(with_answer(session, answer))
-}
-
-// A refused start leaves the run in hand.
-fn begin(
-    rt: &impl Print,
-    session: Session,
-    function: KeyedFunction,
-    payload: &[u8],
-    first: Part,
-    string: Part,
-) -> io::Result<Session>
-    requires { (first.from ≤ first.end) × (first.end ≤ length payload.now) × (string.from ≤ string.end) × (string.end ≤ length payload.now) }
-{
-    let first_from = first.from;
-    let first_end = first.end;
-    let from = string.from;
-    let end = string.end;
-    let answer = functions::keyed::start(
-        function,
-        &payload[first_from..first_end],
-        &payload[from..end],
-    );
-    line::write_status(rt, answer.status)?;
-    if answer.status != DONE {
-        return Ok(session);
+fn own_field(function: KeyedFunction) -> Option<OwnField> {
+    match function {
+        KeyedFunction::CShake128 | KeyedFunction::CShake256 => Some(OwnField::Bit),
+        KeyedFunction::Kmac128 | KeyedFunction::Kmac256 => Some(OwnField::Length),
+        KeyedFunction::KmacXof128 | KeyedFunction::KmacXof256 => None,
     }
-    Ok(session::begun(session, function, answer.keyed))
 }
 
-// Op n.
-pub fn start(rt: &impl Print, session: Session, payload: &[u8]) -> io::Result<Session> {
-    if payload.len() == 0 {
-        return session::bad_record(rt, session);
+impl Calls for KeyedInHand {
+    fn absorb(&mut self, piece: &[u8]) -> u8 {
+        self.keep(functions::keyed::absorb(self.function, self.run, piece))
     }
-    let Chosen::Keyed(function) = by_number::function_of(payload[0]) else {
-        return session::bad_record(rt, session);
-    };
-    let first = part_at(payload, 1);
-    if !first.fits {
-        return session::bad_record(rt, session);
-    }
-    let string = part_at(payload, first.end);
-    if !string.fits || string.end != payload.len() {
-        return session::bad_record(rt, session);
-    }
-    begin(rt, session, function, payload, first, string)
-}
 
-// With an output length where the function fixes it, else with nothing.
-fn finalize(
-    rt: &impl Print,
-    session: Session,
-    function: KeyedFunction,
-    payload: &[u8],
-) -> io::Result<Session> {
-    let given = in_hand(session);
-    match field::own_field(function) {
-        OwnField::Length => {
-            if payload.len() != 8 {
-                return session::bad_record(rt, session);
-            }
-            let length = number::of_eight(payload, 0);
-            answered(
-                rt,
-                session,
-                functions::keyed::finalize(function, given, length),
-            )
+    // An output length where the function fixes it, else nothing.
+    fn finalize(&mut self, mut payload: Payload) -> Result<u8, BadRecord> {
+        let length = match own_field(self.function) {
+            Some(OwnField::Length) => u64::from_be_bytes(payload.take()?),
+            Some(OwnField::Bit) | None => 0,
+        };
+        payload.end()?;
+        Ok(self.keep(functions::keyed::finalize(self.function, self.run, length)))
+    }
+
+    fn squeeze(&mut self, out: &mut [u8]) -> u8 {
+        self.keep(functions::keyed::squeeze(self.function, self.run, out))
+    }
+
+    // A run of KMAC has its output length as 7, one of cSHAKE as 8 the bit that says SHAKE.
+    fn set(&mut self, field: Field) -> Result<(), BadRecord> {
+        match (own_field(self.function), field.number) {
+            (Some(OwnField::Length), 7) => self.run.output_length = field.value,
+            (Some(OwnField::Bit), 8) => match field.value {
+                0 => self.run.shake = false,
+                1 => self.run.shake = true,
+                _ => return Err(BadRecord),
+            },
+            _ => return sponge_run::write(&mut self.run.run, field),
         }
-        _ => {
-            if payload.len() != 0 {
-                return session::bad_record(rt, session);
-            }
-            answered(rt, session, functions::keyed::finalize(function, given, 0))
+        Ok(())
+    }
+
+    fn line(&self) -> Line<'static> {
+        match own_field(self.function) {
+            Some(OwnField::Bit) => Line::CShake(self.run.run, self.run.shake),
+            Some(OwnField::Length) => Line::Kmac(self.run.run, self.run.output_length),
+            None => Line::Sponge(self.run.run),
         }
     }
-}
-
-fn set(
-    rt: &impl Print,
-    session: Session,
-    function: KeyedFunction,
-    payload: &[u8],
-) -> io::Result<Session> {
-    if payload.len() != 9 {
-        return session::bad_record(rt, session);
-    }
-    let given = in_hand(session);
-    let written = field::write_keyed(function, given, payload[0], number::of_eight(payload, 1));
-    if !written.is_done {
-        return session::bad_record(rt, session);
-    }
-    let keyed = written.keyed;
-    println!(rt; "set")?;
-    Ok(with_run(session, keyed))
-}
-
-fn write_line(
-    rt: &impl Print,
-    function: KeyedFunction,
-    keyed: KeyedRun,
-    text: &mut [u8],
-) -> io::Result<()>
-    requires { 496 ≤ length text.old }
-{
-    let run = keyed.run;
-    let bit = if keyed.shake { 1 } else { 0 };
-    match field::own_field(function) {
-        OwnField::Bit => line::write_run_with(rt, run, bit, 2, text),
-        OwnField::Length => line::write_run_with(rt, run, keyed.output_length, 16, text),
-        OwnField::Nothing => line::write_run(rt, run, text),
-    }
-}
-
-fn dump(
-    rt: &impl Print,
-    session: Session,
-    function: KeyedFunction,
-    payload: &[u8],
-    text: &mut [u8],
-) -> io::Result<Session>
-    requires { 496 ≤ length text.old }
-{
-    if payload.len() != 0 {
-        return session::bad_record(rt, session);
-    }
-    let keyed = in_hand(session);
-    write_line(rt, function, keyed, text)?;
-    Ok(session)
-}
-
-pub fn answer(
-    rt: &impl Print,
-    session: Session,
-    function: KeyedFunction,
-    op: u8,
-    payload: &[u8],
-    text: &mut [u8],
-) -> io::Result<Session>
-    requires { 496 ≤ length text.old }
-{
-    let given = in_hand(session);
-    match op {
-        b'A' => answered(
-            rt,
-            session,
-            functions::keyed::absorb(function, given, payload),
-        ),
-        b'F' => finalize(rt, session, function, payload),
-        b'S' => set(rt, session, function, payload),
-        b'D' => dump(rt, session, function, payload, text),
-        _ => session::bad_record(rt, session),
-    }
-}
-
-pub fn squeeze(
-    rt: &impl Print,
-    session: Session,
-    function: KeyedFunction,
-    out: &mut [u8],
-    text: &mut [u8],
-) -> io::Result<Session>
-    requires { 2 * length out.old + 2 ≤ length text.old }
-{
-    session::fill(out);
-    let given = in_hand(session);
-    let answer = functions::keyed::squeeze(function, given, out);
-    line::write_output(rt, answer.status, out, text)?;
-    Ok(with_answer(session, answer))
 }

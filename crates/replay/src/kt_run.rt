@@ -1,126 +1,86 @@
-// The records for a run of KT, which is in hand; and what a day's run shares with one.
-ghost use Rattle.std.specs.Prelude.{◌+◌, ◌*◌, ◌≤◌, length};
-
-use crate::session::Session;
-use crate::{field, lent, line, number, session};
+// A run of KT, in hand.
+use crate::calls::{Calls, Field};
+use crate::lent;
+use crate::lent::{BEFORE, MOST_WORDS, Words};
+use crate::line::Line;
+use crate::payload::Payload;
+use crate::record::BadRecord;
 use functions::kt::{KtAnswer, KtFunction};
 use kangarootwelve::Run;
-use std::io;
 
-fn with_run(session: Session, run: Run) -> Session {
-    let mut next = session;
-    next.kt_run = run;
-    next
-}
-
-// The run that a call handed back is in hand.
-pub fn with_answer(session: Session, answer: KtAnswer) -> Session {
-    let run = answer.run;
-    with_run(session, run)
-}
-
-pub fn answered(rt: &impl Print, session: Session, answer: KtAnswer) -> io::Result<Session> {
-    line::write_status(rt, answer.status)?;
-    Ok(with_answer(session, answer))
-}
-
-fn set(rt: &impl Print, session: Session, payload: &[u8]) -> io::Result<Session> {
-    if payload.len() != 9 {
-        return session::bad_record(rt, session);
-    }
-    let given = session.kt_run;
-    let written = field::write_kt(given, payload[0], number::of_eight(payload, 1));
-    if !written.is_done {
-        return session::bad_record(rt, session);
-    }
-    let run = written.run;
-    println!(rt; "set")?;
-    Ok(with_run(session, run))
-}
-
-fn dump(rt: &impl Print, session: Session, payload: &[u8], text: &mut [u8]) -> io::Result<Session>
-    requires { 955 ≤ length text.old }
-{
-    if payload.len() != 0 {
-        return session::bad_record(rt, session);
-    }
-    let run = session.kt_run;
-    line::write_kt_run(rt, run, text)?;
-    Ok(session)
-}
-
-// The records that do no call.
-pub fn answer_fields(
-    rt: &impl Print,
-    session: Session,
-    op: u8,
-    payload: &[u8],
-    text: &mut [u8],
-) -> io::Result<Session>
-    requires { 955 ≤ length text.old }
-{
-    match op {
-        b'S' => set(rt, session, payload),
-        b'D' => dump(rt, session, payload, text),
-        _ => session::bad_record(rt, session),
-    }
-}
-
-// Op E, which has no payload.
-fn finish(
-    rt: &impl Print,
-    session: Session,
+#[derive(Clone, Copy)]
+pub struct KtInHand {
     function: KtFunction,
-    payload: &[u8],
-) -> io::Result<Session> {
-    if payload.len() != 0 {
-        return session::bad_record(rt, session);
-    }
-    let given = session.kt_run;
-    answered(rt, session, functions::kt::finish(function, given))
+    run: Run,
 }
 
-pub fn answer(
-    rt: &impl Print,
-    session: Session,
-    function: KtFunction,
-    op: u8,
-    payload: &[u8],
-    text: &mut [u8],
-) -> io::Result<Session>
-    requires { 955 ≤ length text.old }
-{
-    let given = session.kt_run;
-    match op {
-        b'A' => answered(rt, session, functions::kt::absorb(function, given, payload)),
-        b'a' => lent::absorb(rt, session, function, payload),
-        b'C' => answered(
-            rt,
-            session,
-            functions::kt::customize(function, given, payload),
-        ),
-        b'F' => answered(
-            rt,
-            session,
-            functions::kt::finalize(function, given, payload),
-        ),
-        b'E' => finish(rt, session, function, payload),
-        _ => answer_fields(rt, session, op, payload, text),
+impl KtInHand {
+    pub fn fresh(function: KtFunction) -> Self {
+        KtInHand {
+            function,
+            run: functions::kt::fresh(function),
+        }
+    }
+
+    fn keep(&mut self, answer: KtAnswer) -> u8 {
+        self.run = answer.run;
+        answer.status
     }
 }
 
-pub fn squeeze(
-    rt: &impl Print,
-    session: Session,
-    function: KtFunction,
-    out: &mut [u8],
-    text: &mut [u8],
-) -> io::Result<Session>
-    requires { 2 * length out.old + 2 ≤ length text.old }
-{
-    session::fill(out);
-    let given = session.kt_run;
-    let answer = functions::kt::squeeze(function, given, out);
-    line::write_output(rt, answer.status, out, text)?;
-    Ok(with_answer(session, answer))
+impl Calls for KtInHand {
+    fn absorb(&mut self, piece: &[u8]) -> u8 {
+        self.keep(functions::kt::absorb(self.function, self.run, piece))
+    }
+
+    fn absorb_abreast(&mut self, mut payload: Payload) -> Result<Line<'static>, BadRecord> {
+        let mut words = [BEFORE; MOST_WORDS];
+        let words = lent::take(&mut words, u16::from_be_bytes(payload.take()?))?;
+        let answer = functions::kt::absorb_abreast(self.function, self.run, payload.rest(), words);
+        Ok(Line::Lent(self.keep(answer), Words::of(words)))
+    }
+
+    fn customize(&mut self, piece: &[u8]) -> Result<u8, BadRecord> {
+        Ok(self.keep(functions::kt::customize(self.function, self.run, piece)))
+    }
+
+    // The payload is the customization string.
+    fn finalize(&mut self, payload: Payload) -> Result<u8, BadRecord> {
+        Ok(self.keep(functions::kt::finalize(self.function, self.run, payload.rest())))
+    }
+
+    fn finish(&mut self) -> Result<u8, BadRecord> {
+        Ok(self.keep(functions::kt::finish(self.function, self.run)))
+    }
+
+    fn squeeze(&mut self, out: &mut [u8]) -> u8 {
+        self.keep(functions::kt::squeeze(self.function, self.run, out))
+    }
+
+    fn set(&mut self, field: Field) -> Result<(), BadRecord> {
+        write(&mut self.run, field)
+    }
+
+    fn line(&self) -> Line<'static> {
+        Line::Kt(self.run)
+    }
+}
+
+// Writes a field by its number, as of a run of the sponge: the position and the lanes are the final node's; 4 is the leaf's position, 5 the
+// customization bytes, and 96 + i lane i of the leaf.
+pub fn write(run: &mut Run, field: Field) -> Result<(), BadRecord> {
+    let Field { number, value } = field;
+    match number {
+        0 => run.phase = u8::try_from(value)?,
+        1 => run.absorbed = value,
+        2 => run.squeezed = value,
+        3 => run.node.position = value as usize,
+        4 => run.leaf.position = value as usize,
+        5 => run.customized = value,
+        6 => run.permutations = value,
+        64..=88 => run.node.lanes[(number - 64) as usize] = value,
+        96..=120 => run.leaf.lanes[(number - 96) as usize] = value,
+        _ => return Err(BadRecord),
+    }
+    Ok(())
 }

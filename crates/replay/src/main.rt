@@ -46,169 +46,75 @@
 #![tactic(auto)]
 
 mod by_number;
-mod field;
+mod calls;
+mod day_run;
 mod hopmac;
-mod input;
-mod journal_run;
-mod keyed_one_go;
+mod in_hand;
 mod keyed_run;
 mod kt_run;
 mod lent;
 mod line;
-mod number;
 mod one_go;
-mod part;
+mod payload;
 mod permutation;
-mod session;
+mod record;
 mod sponge_run;
 
-ghost use Rattle.std.specs.Prelude.{◌+◌, ◌*◌, ◌≤◌, length};
-
-use by_number::Chosen;
-use session::Session;
+use in_hand::InHand;
+use line::Line;
+use record::{BadRecord, MOST, Record, Stop};
 use std::io;
 use std::io::Read;
 
-// The records, but R, that are for the run in hand.
-fn answer_run(
-    rt: &impl Print,
-    session: Session,
-    op: u8,
-    payload: &[u8],
-    text: &mut [u8],
-) -> io::Result<Session>
-    requires { 955 ≤ length text.old }
-{
-    let chosen = session.chosen;
-    match chosen {
-        Chosen::Sponge(function) => sponge_run::answer(rt, session, function, op, payload, text),
-        Chosen::Kt(function) => kt_run::answer(rt, session, function, op, payload, text),
-        Chosen::Journal => journal_run::answer(rt, session, op, payload, text),
-        Chosen::Keyed(function) => keyed_run::answer(rt, session, function, op, payload, text),
-        Chosen::Nothing => session::bad_record(rt, session),
-    }
-}
-
-// R: `out` is as long as what is asked.
-fn answer_squeeze(
-    rt: &impl Print,
-    session: Session,
-    out: &mut [u8],
-    text: &mut [u8],
-) -> io::Result<Session>
-    requires { 2 * length out.old + 2 ≤ length text.old }
-{
-    let chosen = session.chosen;
-    match chosen {
-        Chosen::Sponge(function) => sponge_run::squeeze(rt, session, function, out, text),
-        Chosen::Kt(function) => kt_run::squeeze(rt, session, function, out, text),
-        Chosen::Journal => journal_run::squeeze(rt, session, out, text),
-        Chosen::Keyed(function) => keyed_run::squeeze(rt, session, function, out, text),
-        Chosen::Nothing => session::bad_record(rt, session),
-    }
-}
-
-fn answer(
-    rt: &impl Print,
-    session: Session,
-    op: u8,
-    payload: &[u8],
-    out: &mut [u8],
-    text: &mut [u8],
-) -> io::Result<Session>
-    requires in_bounds { 262144 ≤ length out.old }
-    requires in_bounds_2 { 524290 ≤ length text.old }
-{
+// N and n leave another run in hand; T, B, K, k, M, H, V, P and I need none, and leave the one there is as it is.
+// Kept: the ops stay the letters of the records; an enum of them would be read by one more match with the same arms.
+fn answer<'a>(
+    in_hand: &mut Option<InHand>,
+    record: Record,
+    out: &'a mut [u8; MOST],
+) -> Result<Line<'a>, BadRecord> {
+    let Record { op, n, payload } = record;
     match op {
-        b'N' => session::fresh(rt, session, payload),
-        b'n' => keyed_run::start(rt, session, payload),
-        b'M' => keyed_one_go::hash(rt, session, payload, out, text),
-        b'T' => one_go::with_domain(rt, session, payload, out, text),
-        b'B' => one_go::without_domain(rt, session, payload, out, text),
-        b'P' | b'I' => permutation::answer(rt, session, op, payload, out, text),
-        b'K' => one_go::kt(rt, session, payload, out, text),
-        b'k' => lent::hash(rt, session, payload, out, text),
-        b'H' => hopmac::tag(rt, session, payload, out, text),
-        b'V' => hopmac::verify(rt, session, payload),
-        _ => answer_run(rt, session, op, payload, text),
+        b'N' => in_hand::fresh(in_hand, payload),
+        b'n' => in_hand::start(in_hand, payload),
+        b'R' => in_hand::squeeze(in_hand, n, out),
+        b'T' => one_go::sponge(payload, out, true),
+        b'B' => one_go::sponge(payload, out, false),
+        b'K' => one_go::kt(payload, out),
+        b'k' => lent::hash(payload, out),
+        b'M' => one_go::keyed(payload, out),
+        b'H' => hopmac::tag(payload, out),
+        b'V' => hopmac::verify(payload),
+        b'P' => permutation::answer(payload, out, keccak::permute_in_place),
+        b'I' => permutation::answer(payload, out, inverse::unpermute_in_place),
+        _ => in_hand::answer(in_hand, op, payload),
     }
 }
 
-// Reads a payload as long as the buffer, and does the call.
-fn answer_payload(
-    rt: &impl Print,
-    input: &mut impl Read,
-    session: Session,
-    op: u8,
-    payload: &mut [u8],
-    out: &mut [u8],
-    text: &mut [u8],
-) -> io::Result<Session>
-    requires in_bounds { 262144 ≤ length out.old }
-    requires in_bounds_2 { 524290 ≤ length text.old }
-{
-    if input::read_full(input, payload)? < payload.len() {
-        return session::bad_record(rt, session);
-    }
-    answer(rt, session, op, payload, out, text)
-}
-
-fn answer_record(
-    rt: &impl Print,
-    input: &mut impl Read,
-    session: Session,
-    payload: &mut [u8],
-    out: &mut [u8],
-    text: &mut [u8],
-) -> io::Result<Session>
-    requires in_bounds { 262144 ≤ length payload.old }
-    requires in_bounds_2 { 262144 ≤ length out.old }
-    requires in_bounds_3 { 524290 ≤ length text.old }
-{
-    let mut head = [0u8; 5];
-    let got = input::read_full(input, &mut head)?;
-    if got == 0 {
-        return Ok(session::end(session));
-    }
-    if got < 5 {
-        return session::bad_record(rt, session);
-    }
-    let op = head[0];
-    let asked = number::of_four(&head, 1);
-    if session::MOST < asked {
-        return session::bad_record(rt, session);
-    }
-    let n = asked as usize;
-    if op == b'R' {
-        return answer_squeeze(rt, session, &mut out[0..n], text);
-    }
-    answer_payload(rt, input, session, op, &mut payload[0..n], out, text)
-}
-
-// A proved loop has to end, and nothing says that the input does: the turns are counted down from a number that no run uses up.
+// A proved loop has to end, and nothing says that the input does: the turns come to a number that no run uses up.
 fn replay(
     rt: &impl Print,
     input: &mut impl Read,
-    payload: &mut [u8],
-    out: &mut [u8],
-    text: &mut [u8],
-) -> io::Result<()>
-    requires in_bounds { 262144 ≤ length payload.old }
-    requires in_bounds_2 { 262144 ≤ length out.old }
-    requires in_bounds_3 { 524290 ≤ length text.old }
-{
-    let mut session = session::begin();
-    let mut turns = u64::MAX;
-    while turns > 0 && session.is_going {
-        session = answer_record(rt, input, session, payload, out, text)?;
-        turns -= 1;
+    payload: &mut [u8; MOST],
+    out: &mut [u8; MOST],
+) -> Result<(), Stop> {
+    let mut in_hand = None;
+    for _ in 0..u64::MAX {
+        let Some(record) = record::read(input, payload)? else {
+            break;
+        };
+        let line = answer(&mut in_hand, record, out)?;
+        println!(rt; "{line}")?;
     }
     Ok(())
 }
 
 fn main(rt: HostRuntime) -> io::Result<()> {
-    let mut payload = [0u8; 262144];
-    let mut out = [0u8; 262144];
-    let mut text = [0u8; 524290];
-    replay(&rt, &mut rt.reader(), &mut payload, &mut out, &mut text)
+    let mut payload = [0u8; MOST];
+    let mut out = [0u8; MOST];
+    match replay(&rt, &mut rt.reader(), &mut payload, &mut out) {
+        Err(Stop::Bad(bad)) => println!(rt; "{bad}"),
+        Err(Stop::Failed(error)) => Err(error),
+        Ok(()) => Ok(()),
+    }
 }

@@ -1,110 +1,68 @@
-// The records for a run of TurboSHAKE or of FIPS 202, which is in hand.
-ghost use Rattle.std.specs.Prelude.{◌+◌, ◌*◌, ◌≤◌, length};
-
-use crate::session::Session;
-use crate::{field, line, number, session};
+// A run of TurboSHAKE or of FIPS 202, in hand.
+use crate::calls::{Calls, Field};
+use crate::line::Line;
+use crate::payload::Payload;
+use crate::record::BadRecord;
 use functions::Function;
 use hasher::{Answer, Run};
-use std::io;
 
-fn with_run(session: Session, run: Run) -> Session {
-    let mut next = session;
-    next.run = run;
-    next
-}
-
-// The run that a call handed back is in hand.
-fn with_answer(session: Session, answer: Answer) -> Session {
-    let run = answer.run;
-    with_run(session, run)
-}
-
-fn answered(rt: &impl Print, session: Session, answer: Answer) -> io::Result<Session> {
-    line::write_status(rt, answer.status)?;
-    Ok(with_answer(session, answer))
-}
-
-// A domain byte where the function has one, else nothing.
-fn finalize(
-    rt: &impl Print,
-    session: Session,
+#[derive(Clone, Copy)]
+pub struct SpongeInHand {
     function: Function,
-    payload: &[u8],
-) -> io::Result<Session> {
-    let given = session.run;
-    if function.domain {
-        if payload.len() != 1 {
-            return session::bad_record(rt, session);
+    run: Run,
+}
+
+impl SpongeInHand {
+    pub fn fresh(function: Function) -> Self {
+        SpongeInHand {
+            function,
+            run: hasher::fresh(),
         }
-        return answered(
-            rt,
-            session,
-            functions::finalize(function, given, payload[0]),
-        );
     }
-    if payload.len() != 0 {
-        return session::bad_record(rt, session);
-    }
-    answered(rt, session, functions::finalize(function, given, 0))
-}
 
-fn set(rt: &impl Print, session: Session, payload: &[u8]) -> io::Result<Session> {
-    if payload.len() != 9 {
-        return session::bad_record(rt, session);
-    }
-    let given = session.run;
-    let written = field::write(given, payload[0], number::of_eight(payload, 1));
-    if !written.is_done {
-        return session::bad_record(rt, session);
-    }
-    let run = written.run;
-    println!(rt; "set")?;
-    Ok(with_run(session, run))
-}
-
-fn dump(rt: &impl Print, session: Session, payload: &[u8], text: &mut [u8]) -> io::Result<Session>
-    requires { 496 ≤ length text.old }
-{
-    if payload.len() != 0 {
-        return session::bad_record(rt, session);
-    }
-    let run = session.run;
-    line::write_run(rt, run, text)?;
-    Ok(session)
-}
-
-pub fn answer(
-    rt: &impl Print,
-    session: Session,
-    function: Function,
-    op: u8,
-    payload: &[u8],
-    text: &mut [u8],
-) -> io::Result<Session>
-    requires { 496 ≤ length text.old }
-{
-    let given = session.run;
-    match op {
-        b'A' => answered(rt, session, functions::absorb(function, given, payload)),
-        b'F' => finalize(rt, session, function, payload),
-        b'S' => set(rt, session, payload),
-        b'D' => dump(rt, session, payload, text),
-        _ => session::bad_record(rt, session),
+    // Kept: once for each kind of run, since `functions` has an answer of its own for each.
+    fn keep(&mut self, answer: Answer) -> u8 {
+        self.run = answer.run;
+        answer.status
     }
 }
 
-pub fn squeeze(
-    rt: &impl Print,
-    session: Session,
-    function: Function,
-    out: &mut [u8],
-    text: &mut [u8],
-) -> io::Result<Session>
-    requires { 2 * length out.old + 2 ≤ length text.old }
-{
-    session::fill(out);
-    let given = session.run;
-    let answer = functions::squeeze(function, given, out);
-    line::write_output(rt, answer.status, out, text)?;
-    Ok(with_answer(session, answer))
+impl Calls for SpongeInHand {
+    fn absorb(&mut self, piece: &[u8]) -> u8 {
+        self.keep(functions::absorb(self.function, self.run, piece))
+    }
+
+    fn finalize(&mut self, mut payload: Payload) -> Result<u8, BadRecord> {
+        let domain = payload.domain(self.function)?;
+        payload.end()?;
+        Ok(self.keep(functions::finalize(self.function, self.run, domain)))
+    }
+
+    fn squeeze(&mut self, out: &mut [u8]) -> u8 {
+        self.keep(functions::squeeze(self.function, self.run, out))
+    }
+
+    fn set(&mut self, field: Field) -> Result<(), BadRecord> {
+        write(&mut self.run, field)
+    }
+
+    fn line(&self) -> Line<'static> {
+        Line::Sponge(self.run)
+    }
+}
+
+// Writes a field by its number: phase, bytes absorbed, bytes squeezed, position; 6 is the permutations; 64 + i is lane i.
+// Kept: the fields stay the numbers of the records, which name lanes by a sum.
+pub fn write(run: &mut Run, field: Field) -> Result<(), BadRecord> {
+    let Field { number, value } = field;
+    match number {
+        0 => run.phase = u8::try_from(value)?,
+        1 => run.absorbed = value,
+        2 => run.squeezed = value,
+        3 => run.position = value as usize,
+        6 => run.permutations = value,
+        64..=88 => run.lanes[(number - 64) as usize] = value,
+        _ => return Err(BadRecord),
+    }
+    Ok(())
 }

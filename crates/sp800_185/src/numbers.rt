@@ -25,7 +25,7 @@ impl Numbers {
     ghost use Rattle.sp800_185.specs.Model.{given, plain};
 
     // cSHAKE, of strings that are not both empty: the close says nothing.
-    pub fn cshake(rate: usize, most: u64) -> Self
+    pub(crate) fn cshake(rate: usize, most: u64) -> Self
         requires { (0 < rate) × (rate ≤ 200) × (most ≤ 4294967295) }
         ensures { given result ≡ plain (cshake_at rate most) }
     {
@@ -38,7 +38,7 @@ impl Numbers {
     }
 
     // KMAC, whose close says and fixes the output length.
-    pub fn kmac(rate: usize, most: u64) -> Self
+    pub(crate) fn kmac(rate: usize, most: u64) -> Self
         requires { (0 < rate) × (rate ≤ 200) × (most ≤ 4294967295) }
         ensures { given result ≡ plain (kmac_at rate most) }
     {
@@ -51,7 +51,7 @@ impl Numbers {
     }
 
     // KMACXOF, whose close says 0 and fixes nothing.
-    pub fn kmacxof(rate: usize, most: u64) -> Self
+    pub(crate) fn kmacxof(rate: usize, most: u64) -> Self
         requires { (0 < rate) × (rate ≤ 200) × (most ≤ 4294967295) }
         ensures { given result ≡ plain (kmacxof_at rate most) }
     {

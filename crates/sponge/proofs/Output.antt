@@ -1,13 +1,13 @@
 -- What a loop has written of a lent output: bytes of a state one by one, eight at once, and parts that were lent on.
 -- Assumes nothing.
-use mathlib.Core.Path.{◌≡◌, sym, ap, ◌∙◌, subst}
+use mathlib.Core.Path.{◌≡◌, refl, sym, ap, ◌∙◌, subst}
 use mathlib.Core.List.{List, [], ◌∷◌, ◌++◌, append_assoc}
 use Prim.Native.Nat.{ℕ, zero, suc, ◌+◌, ◌-◌, ◌*◌, ◌/◌, ◌%◌, ◌^◌, ◌<◌, ◌≤◌}
 use native.Mathlib.Nat.{zero-add, suc-add, add-suc, add-zero}
 use native.Mathlib.Numerals.{add-one}
 use native.Mathlib.Omega.{arith}
 use lib.ListN.{length, get_or, take, drop, set, length-set, length-append, length-drop}
-use lib.Seq.{take_all, length-take-le, take-suc-set, take_at}
+use lib.Seq.{take_all, length-take-le, take-suc-set, take_at, drop-drop, sets, sets-eq}
 use Rattle.keccak.specs.State.{byte_at}
 use Rattle.keccak.proofs.Bytes.{byte_of_lane}
 use Rattle.sponge.specs.Published.{bytes_from}
@@ -62,9 +62,39 @@ write_word l out p q i w h e ew t =
     let t7 : take (i + 7) o7 ≡ bytes_from l p (i + 7) = word_byte l o6 p q i 6 (w / 2 ^ 48 % 256) e (omega arith) (simp length-set (omega arith)) (byte 48) t6 in
     word_byte l o7 p q i 7 (w / 2 ^ 56 % 256) e (omega arith) (simp length-set (omega arith)) (byte 56) t7
 
+-- the same where w is the k-th word written
+pub write_next_word : (l out o : List ℕ) (p q k w : ℕ) → 8 * k + 8 ≤ length out → p + 8 * k ≡ 8 * q → w ≡ get_or l q 0 → o ≡ with_word out (8 * k) w
+    → take (8 * k) out ≡ bytes_from l p (8 * k) → take (8 * (k + 1)) o ≡ bytes_from l p (8 * (k + 1))
+write_next_word l out o p q k w h e ew eo t =
+    let next : 8 * k + 8 ≡ 8 * (k + 1) = omega arith in
+    ap (take (8 * (k + 1))) eo
+    ∙ subst (λ (n : ℕ). take n (with_word out (8 * k) w) ≡ bytes_from l p n) next (write_word l out p q (8 * k) w h e ew t)
+
 pub length-with_word : (s : List ℕ) (i w : ℕ) → length (with_word s i w) ≡ length s
 unfolding with_word
 length-with_word s i w = simp length-set
+
+-- the eight bytes put at once where eight bytes stood
+pub with_word_parts : (s ys : List ℕ) (i k w : ℕ) → i + 8 ≤ length s → k ≡ 8
+    → ys ≡ w % 256 ∷ w / 2 ^ 8 % 256 ∷ w / 2 ^ 16 % 256 ∷ w / 2 ^ 24 % 256 ∷ w / 2 ^ 32 % 256 ∷ w / 2 ^ 40 % 256 ∷ w / 2 ^ 48 % 256 ∷ w / 2 ^ 56 % 256 ∷ []
+    → take i s ++ (ys ++ drop k (drop i s)) ≡ with_word s i w
+unfolding with_word
+with_word_parts s ys i k w h ek ey =
+    let vs : List ℕ = w % 256 ∷ w / 2 ^ 8 % 256 ∷ w / 2 ^ 16 % 256 ∷ w / 2 ^ 24 % 256 ∷ w / 2 ^ 32 % 256 ∷ w / 2 ^ 40 % 256 ∷ w / 2 ^ 48 % 256 ∷ w / 2 ^ 56 % 256 ∷ [] in
+    let e1 : i + 1 ≡ suc i = omega arith in
+    let e2 : i + 2 ≡ suc (suc i) = omega arith in
+    let e3 : i + 3 ≡ suc (suc (suc i)) = omega arith in
+    let e4 : i + 4 ≡ suc (suc (suc (suc i))) = omega arith in
+    let e5 : i + 5 ≡ suc (suc (suc (suc (suc i)))) = omega arith in
+    let e6 : i + 6 ≡ suc (suc (suc (suc (suc (suc i))))) = omega arith in
+    let e7 : i + 7 ≡ suc (suc (suc (suc (suc (suc (suc i)))))) = omega arith in
+    let whole : sets s i vs ≡ take i s ++ vs ++ drop (i + 8) s = sets-eq vs s i h in
+    let same : sets s i vs ≡ with_word s i w = rw (e1, e2, e3, e4, e5, e6, e7) refl in
+    ap (λ (u : List ℕ). take i s ++ (u ++ drop k (drop i s))) ey
+    ∙ ap (λ (u : List ℕ). take i s ++ (vs ++ u)) (ap (λ (n : ℕ). drop n (drop i s)) ek ∙ drop-drop 8 i s)
+    ∙ sym (append_assoc (take i s) vs (drop (i + 8) s))
+    ∙ sym whole
+    ∙ same
 
 -- all of it is written
 pub write_all : (f : ℕ → List ℕ) (out : List ℕ) (i n : ℕ) → i ≤ length out → length out ≤ i → length out ≡ n → take i out ≡ f i → out ≡ f n

@@ -204,6 +204,17 @@ word-step l s q i h hb =
     ∙ ap (xor_lane l q) (mul-one (word t)))
     ∙ rw (e, drop-drop 8 i s)
 
+-- the same where w is the q-th word, which goes into lane `first` + q
+pub word_turn : (l s : List ℕ) (first q w : ℕ) → 8 * q + 8 ≤ length s → ((j : ℕ) → get_or s j 0 < 256) → w ≡ word (take 8 (drop (8 * q) s))
+    → puts xor_byte (xor_lane l (first + q) w) (8 * (first + (q + 1))) (drop (8 * (q + 1)) s) ≡ puts xor_byte l (8 * (first + q)) (drop (8 * q) s)
+word_turn l s first q w h hb e =
+    let lane : 8 * (first + (q + 1)) ≡ 8 * (first + q + 1) = omega arith in
+    let next : 8 * (q + 1) ≡ 8 * q + 8 = omega arith in
+    ap (λ (n : ℕ). puts xor_byte (xor_lane l (first + q) w) n (drop (8 * (q + 1)) s)) lane
+    ∙ ap (λ (n : ℕ). puts xor_byte (xor_lane l (first + q) w) (8 * (first + q + 1)) (drop n s)) next
+    ∙ ap (λ (v : ℕ). puts xor_byte (xor_lane l (first + q) v) (8 * (first + q + 1)) (drop (8 * q + 8) s)) e
+    ∙ sym (word-step l s (first + q) (8 * q) h hb)
+
 -- the machine's shift of a byte within a word loses nothing
 pub byte-shifted : (l : List ℕ) (p b w : ℕ) → w ≡ b → w < 256 → set l (p / 8) (bit_xor (get_or l (p / 8) 0) (w * 2 ^ (8 * (p % 8)) % 2 ^ 64)) ≡ xor_byte l p b
 unfolding xor_byte

@@ -25,7 +25,7 @@ fn half_word_at(s: &[u8], i: usize) -> u64
     requires { i + 4 ≤ length s.now }
     ensures { (result ≡ word (take 4 (drop i s.now))) × (result < 2 ^ 32) }
 {
-    wide(s[i]) + wide(s[i + 1]) * 0x100 + wide(s[i + 2]) * 0x1_0000 + wide(s[i + 3]) * 0x100_0000
+    u64::from(u32::from_le_bytes([s[i], s[i + 1], s[i + 2], s[i + 3]]))
 }
 
 // The same of eight bytes.
@@ -33,10 +33,20 @@ pub(crate) fn word_at(s: &[u8], i: usize) -> u64
     requires { i + 8 ≤ length s.now }
     ensures { result ≡ word (take 8 (drop i s.now)) }
 {
-    half_word_at(s, i) + half_word_at(s, i + 4) * 0x1_0000_0000
+    u64::from_le_bytes([
+        s[i],
+        s[i + 1],
+        s[i + 2],
+        s[i + 3],
+        s[i + 4],
+        s[i + 5],
+        s[i + 6],
+        s[i + 7],
+    ])
 }
 
 // The same of all bytes from index i on, fewer than four: a case for each count costs less than a loop.
+// Kept: std has no call for a part of a word.
 fn word_from(s: &[u8], i: usize) -> u64
     requires { (i ≤ length s.now) × (length s.now < i + 4) }
     ensures { (result ≡ word (drop i s.now)) × (result < 2 ^ 24) }
@@ -83,19 +93,17 @@ pub(crate) fn xor_bytes(lanes: &mut [u64; 25], at: usize, s: &[u8])
 }
 
 // Bytes XORed into the state from the start of lane `first` on: whole lanes, and what is left.
+// Kept: beside `four::xor_words`, as `read_words` is. This goes from any lane to a ragged end, that over four states: a text for both is no plainer.
 fn xor_words(lanes: &mut [u64; 25], first: usize, s: &[u8])
     requires { 8 * first + length s.now ≤ 200 }
     ensures { lanes.new ≡ puts xor_byte lanes.old (8 * first) s.now }
 {
-    let mut q = first;
-    let mut i = 0;
-    while 8 <= s.len() - i {
-        lanes[q] = lanes[q] ^ word_at(s, i);
-        q += 1;
-        i += 8;
+    let words = s.len() / 8;
+    for q in 0..words {
+        lanes[first + q] = lanes[first + q] ^ word_at(s, 8 * q);
     }
-    if i < s.len() {
-        xor_bytes(lanes, 8 * q, &s[i..]);
+    if 8 * words < s.len() {
+        xor_bytes(lanes, 8 * (first + words), &s[8 * words..]);
     }
 }
 
@@ -128,14 +136,7 @@ pub(crate) fn put_word(out: &mut [u8], i: usize, w: u64)
     requires { i + 8 ≤ length out.old }
     ensures { out.new ≡ with_word out.old i w }
 {
-    out[i] = (w % 256) as u8;
-    out[i + 1] = ((w >> 8) % 256) as u8;
-    out[i + 2] = ((w >> 16) % 256) as u8;
-    out[i + 3] = ((w >> 24) % 256) as u8;
-    out[i + 4] = ((w >> 32) % 256) as u8;
-    out[i + 5] = ((w >> 40) % 256) as u8;
-    out[i + 6] = ((w >> 48) % 256) as u8;
-    out[i + 7] = ((w >> 56) % 256) as u8;
+    out[i..i + 8].copy_from_slice(&w.to_le_bytes());
 }
 
 // The bytes of the state from byte `at` on, one by one.
@@ -143,10 +144,8 @@ fn read_bytes(lanes: &[u64; 25], at: usize, out: &mut [u8])
     requires { at + length out.old ≤ 200 }
     ensures { out.new ≡ bytes_from lanes.now at (length out.old) }
 {
-    let mut i = 0;
-    while i < out.len() {
-        out[i] = byte_of(lanes, at + i);
-        i += 1;
+    for (i, byte) in out.iter_mut().enumerate() {
+        *byte = byte_of(lanes, at + i);
     }
 }
 
@@ -155,14 +154,11 @@ fn read_words(lanes: &[u64; 25], first: usize, out: &mut [u8])
     requires { 8 * first + length out.old ≤ 200 }
     ensures { out.new ≡ bytes_from lanes.now (8 * first) (length out.old) }
 {
-    let mut q = first;
-    let mut i = 0;
-    while 8 <= out.len() - i {
-        put_word(out, i, lanes[q]);
-        q += 1;
-        i += 8;
+    let words = out.len() / 8;
+    for q in 0..words {
+        put_word(out, 8 * q, lanes[first + q]);
     }
-    read_bytes(lanes, 8 * q, &mut out[i..]);
+    read_bytes(lanes, 8 * (first + words), &mut out[8 * words..]);
 }
 
 // The same from any byte on.

@@ -15,12 +15,10 @@ use crate::{block, status};
 fn are_words(count: usize) -> bool
     ensures { result ≡ whole_words count }
 {
-    if 200 < count {
-        return false;
-    }
-    count % 8 == 0
+    count <= 200 && count % 8 == 0
 }
 
+// Kept: a line for each refusal, in the order of the definition; in one expression the proof has to take the branches apart again.
 fn xor_status(words: usize, bytes: usize, from: usize, count: usize) -> u8
     ensures { result ≡ xor_status words bytes from count }
 {
@@ -40,6 +38,7 @@ fn xor_status(words: usize, bytes: usize, from: usize, count: usize) -> u8
     status::DONE
 }
 
+// Kept: the same.
 fn read_status(words: usize, j: usize, count: usize) -> u8
     ensures { result ≡ read_status words j count }
 {
@@ -68,15 +67,14 @@ fn xor_lanes(states: &mut [u64], q: usize, strings: &[u8], at: usize, each: usiz
 }
 
 // XORs whole words of each string into the start of its state: the loop goes over the lanes, so that its cost is shared by four.
+// Kept: beside `block::xor_words`, as `read_words` is (see there).
 fn xor_words(states: &mut [u64], strings: &[u8], from: usize, count: usize)
     requires { (length states.old ≡ 100) × (count ≤ 200) × (count % 8 ≡ 0) × (from + count ≤ length strings.now / 4) }
     ensures { Each (λ k l. puts xor_byte l 0 (take count (drop from (string_at k strings.now)))) states.old states.new }
 {
     let each = strings.len() / 4;
-    let mut q = 0;
-    while 8 * q < count {
+    for q in 0..count / 8 {
         xor_lanes(states, q, strings, from + 8 * q, each);
-        q += 1;
     }
 }
 
@@ -97,12 +95,8 @@ fn read_words(states: &[u64], j: usize, out: &mut [u8])
     requires { (length states.now ≡ 100) × (j < 4) × (length out.old ≤ 200) × (length out.old % 8 ≡ 0) }
     ensures { out.new ≡ bytes_from (state_at j states.now) 0 (length out.old) }
 {
-    let mut q = 0;
-    let mut i = 0;
-    while i < out.len() {
-        block::put_word(out, i, states[4 * q + j]);
-        q += 1;
-        i += 8;
+    for q in 0..out.len() / 8 {
+        block::put_word(out, 8 * q, states[4 * q + j]);
     }
 }
 

@@ -15,7 +15,7 @@ ghost use Rattle.sponge.specs.Waiting.{ready};
 ghost use Rattle.sponge.specs.Model.{absorb_bytes, squeeze_bytes, after_bytes, valid, call_status};
 ghost use Rattle.sponge.specs.Model as model;
 
-// What a call answers: its status and the position that it leaves.
+// What a call answers: its status and the position that it leaves. Kept: a public answer, which refuses by number.
 #[derive(Clone, Copy)]
 pub struct Answer {
     pub status: u8,
@@ -23,16 +23,11 @@ pub struct Answer {
 }
 
 // A rate is 1 to 200, a position 0 to the rate.
+#[tactic(auto, unfolding(crate::specs::Model::valid))]
 fn is_valid(rate: usize, position: usize) -> bool
     ensures { result ≡ valid rate position }
 {
-    if rate < 1 {
-        return false;
-    }
-    if 200 < rate {
-        return false;
-    }
-    position <= rate
+    1 <= rate && rate <= 200 && position <= rate
 }
 
 // 16 for more than 24 rounds, then 5 for what is no rate or no position.
@@ -58,13 +53,9 @@ fn refused(number: u8, position: usize) -> Answer
     }
 }
 
-fn least(x: usize, y: usize) -> usize
-    ensures { result ≡ min x y }
-{
-    if x < y { x } else { y }
-}
-
 // Permutes a full block, and answers the position of the next byte.
+// Kept: the bounds of rate and position, here and below. The public calls take the numbers apart (docs/API.md), and the position changes at each
+// block: a type that holds the fact would be made anew at each step.
 fn next_position(lanes: &mut [u64; 25], position: usize, rate: usize, rounds: usize) -> usize
     requires { (position ≤ rate) × (0 < rate) }
     ensures upper_bound { result < rate }
@@ -89,13 +80,13 @@ fn absorb_blocks(
     ensures { record { value = lanes.new; position = result } ≡ absorb_bytes (last_rounds rounds) rate (record { value = lanes.old; position = position }) piece.now }
 {
     let mut p = position;
-    let mut i = 0;
-    while i < piece.len() {
+    let mut rest = piece;
+    while 0 < rest.len() {
         let at = next_position(lanes, p, rate, rounds);
-        let k = least(rate - at, piece.len() - i);
-        block::xor_part(lanes, at, &piece[i..i + k]);
-        p = at + k;
-        i += k;
+        let (part, others) = rest.split_at((rate - at).min(rest.len()));
+        block::xor_part(lanes, at, part);
+        p = at + part.len();
+        rest = others;
     }
     p
 }
@@ -136,9 +127,10 @@ fn squeeze_blocks(
 {
     let mut p = position;
     let mut i = 0;
+    // Kept: the index. Where `split_at_mut` cuts off what is left at each turn, the proof knows the length of `out` at the end, and no byte.
     while i < out.len() {
         let at = next_position(lanes, p, rate, rounds);
-        let k = least(rate - at, out.len() - i);
+        let k = (rate - at).min(out.len() - i);
         block::read_part(lanes, at, &mut out[i..i + k]);
         p = at + k;
         i += k;

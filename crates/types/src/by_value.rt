@@ -1,237 +1,38 @@
-// The calls of each type on a run by value.
+// The calls of a function's type on a run by value.
+ghost use Rattle.std.specs.Prelude.{◌<◌, ◌≤◌, length};
+
+use crate::BEFORE;
 use crate::line::Statuses;
-use crate::{BEFORE, DOMAIN};
-use fips202::{Sha3_224, Sha3_256, Sha3_384, Sha3_512, Shake128, Shake256};
-use turboshake::{TurboShake128, TurboShake256};
+use hasher::{Hasher, HasherAnswer};
 
-pub fn turboshake128(a: &[u8], b: &[u8], x: &mut [u8], y: &mut [u8], z: &mut [u8]) -> Statuses {
-    let first = TurboShake128::fresh().absorb(a);
-    let begun = first.hasher;
+// The message goes in as two pieces, and `out` is read in three parts, of which the last is its last byte. `close` ends the message.
+pub fn calls<H: Hasher, F: FnOnce(H) -> HasherAnswer<H>>(
+    message: &[u8; 200],
+    close: F,
+    out: &mut [u8],
+) -> Statuses
+    requires callable { F.IsAlwaysCallable close }
+    requires long_enough { 10 < length out.old }
+{
+    let (first, second) = message.split_at(67);
+    let last = out.len() - 1;
     let mut byte = [BEFORE; 1];
-    let early = begun.squeeze(&mut byte);
-    let kept = early.hasher;
-    let second = kept.absorb(b);
-    let open = second.hasher;
-    let closed = open.finalize(DOMAIN);
-    let full = closed.hasher;
-    let given = full.squeeze(x);
-    let read = given.hasher;
-    let late = read.absorb(b);
-    let same = late.hasher;
-    let rest = same.squeeze(y);
-    let end = rest.hasher;
-    let more = end.squeeze(z);
-    Statuses {
-        first: first.status,
-        early: early.status,
-        second: second.status,
-        closed: closed.status,
-        given: given.status,
-        late: late.status,
-        rest: rest.status,
-        more: more.status,
-    }
-}
-
-pub fn turboshake256(a: &[u8], b: &[u8], x: &mut [u8], y: &mut [u8], z: &mut [u8]) -> Statuses {
-    let first = TurboShake256::fresh().absorb(a);
-    let begun = first.hasher;
-    let mut byte = [BEFORE; 1];
-    let early = begun.squeeze(&mut byte);
-    let kept = early.hasher;
-    let second = kept.absorb(b);
-    let open = second.hasher;
-    let closed = open.finalize(DOMAIN);
-    let full = closed.hasher;
-    let given = full.squeeze(x);
-    let read = given.hasher;
-    let late = read.absorb(b);
-    let same = late.hasher;
-    let rest = same.squeeze(y);
-    let end = rest.hasher;
-    let more = end.squeeze(z);
-    Statuses {
-        first: first.status,
-        early: early.status,
-        second: second.status,
-        closed: closed.status,
-        given: given.status,
-        late: late.status,
-        rest: rest.status,
-        more: more.status,
-    }
-}
-
-pub fn sha3_224(a: &[u8], b: &[u8], x: &mut [u8], y: &mut [u8], z: &mut [u8]) -> Statuses {
-    let first = Sha3_224::fresh().absorb(a);
-    let begun = first.hasher;
-    let mut byte = [BEFORE; 1];
-    let early = begun.squeeze(&mut byte);
-    let kept = early.hasher;
-    let second = kept.absorb(b);
-    let open = second.hasher;
-    let closed = open.finalize();
-    let full = closed.hasher;
-    let given = full.squeeze(x);
-    let read = given.hasher;
-    let late = read.absorb(b);
-    let same = late.hasher;
-    let rest = same.squeeze(y);
-    let end = rest.hasher;
-    let more = end.squeeze(z);
-    Statuses {
-        first: first.status,
-        early: early.status,
-        second: second.status,
-        closed: closed.status,
-        given: given.status,
-        late: late.status,
-        rest: rest.status,
-        more: more.status,
-    }
-}
-
-pub fn sha3_256(a: &[u8], b: &[u8], x: &mut [u8], y: &mut [u8], z: &mut [u8]) -> Statuses {
-    let first = Sha3_256::fresh().absorb(a);
-    let begun = first.hasher;
-    let mut byte = [BEFORE; 1];
-    let early = begun.squeeze(&mut byte);
-    let kept = early.hasher;
-    let second = kept.absorb(b);
-    let open = second.hasher;
-    let closed = open.finalize();
-    let full = closed.hasher;
-    let given = full.squeeze(x);
-    let read = given.hasher;
-    let late = read.absorb(b);
-    let same = late.hasher;
-    let rest = same.squeeze(y);
-    let end = rest.hasher;
-    let more = end.squeeze(z);
-    Statuses {
-        first: first.status,
-        early: early.status,
-        second: second.status,
-        closed: closed.status,
-        given: given.status,
-        late: late.status,
-        rest: rest.status,
-        more: more.status,
-    }
-}
-
-pub fn sha3_384(a: &[u8], b: &[u8], x: &mut [u8], y: &mut [u8], z: &mut [u8]) -> Statuses {
-    let first = Sha3_384::fresh().absorb(a);
-    let begun = first.hasher;
-    let mut byte = [BEFORE; 1];
-    let early = begun.squeeze(&mut byte);
-    let kept = early.hasher;
-    let second = kept.absorb(b);
-    let open = second.hasher;
-    let closed = open.finalize();
-    let full = closed.hasher;
-    let given = full.squeeze(x);
-    let read = given.hasher;
-    let late = read.absorb(b);
-    let same = late.hasher;
-    let rest = same.squeeze(y);
-    let end = rest.hasher;
-    let more = end.squeeze(z);
-    Statuses {
-        first: first.status,
-        early: early.status,
-        second: second.status,
-        closed: closed.status,
-        given: given.status,
-        late: late.status,
-        rest: rest.status,
-        more: more.status,
-    }
-}
-
-pub fn sha3_512(a: &[u8], b: &[u8], x: &mut [u8], y: &mut [u8], z: &mut [u8]) -> Statuses {
-    let first = Sha3_512::fresh().absorb(a);
-    let begun = first.hasher;
-    let mut byte = [BEFORE; 1];
-    let early = begun.squeeze(&mut byte);
-    let kept = early.hasher;
-    let second = kept.absorb(b);
-    let open = second.hasher;
-    let closed = open.finalize();
-    let full = closed.hasher;
-    let given = full.squeeze(x);
-    let read = given.hasher;
-    let late = read.absorb(b);
-    let same = late.hasher;
-    let rest = same.squeeze(y);
-    let end = rest.hasher;
-    let more = end.squeeze(z);
-    Statuses {
-        first: first.status,
-        early: early.status,
-        second: second.status,
-        closed: closed.status,
-        given: given.status,
-        late: late.status,
-        rest: rest.status,
-        more: more.status,
-    }
-}
-
-pub fn shake128(a: &[u8], b: &[u8], x: &mut [u8], y: &mut [u8], z: &mut [u8]) -> Statuses {
-    let first = Shake128::fresh().absorb(a);
-    let begun = first.hasher;
-    let mut byte = [BEFORE; 1];
-    let early = begun.squeeze(&mut byte);
-    let kept = early.hasher;
-    let second = kept.absorb(b);
-    let open = second.hasher;
-    let closed = open.finalize();
-    let full = closed.hasher;
-    let given = full.squeeze(x);
-    let read = given.hasher;
-    let late = read.absorb(b);
-    let same = late.hasher;
-    let rest = same.squeeze(y);
-    let end = rest.hasher;
-    let more = end.squeeze(z);
-    Statuses {
-        first: first.status,
-        early: early.status,
-        second: second.status,
-        closed: closed.status,
-        given: given.status,
-        late: late.status,
-        rest: rest.status,
-        more: more.status,
-    }
-}
-
-pub fn shake256(a: &[u8], b: &[u8], x: &mut [u8], y: &mut [u8], z: &mut [u8]) -> Statuses {
-    let first = Shake256::fresh().absorb(a);
-    let begun = first.hasher;
-    let mut byte = [BEFORE; 1];
-    let early = begun.squeeze(&mut byte);
-    let kept = early.hasher;
-    let second = kept.absorb(b);
-    let open = second.hasher;
-    let closed = open.finalize();
-    let full = closed.hasher;
-    let given = full.squeeze(x);
-    let read = given.hasher;
-    let late = read.absorb(b);
-    let same = late.hasher;
-    let rest = same.squeeze(y);
-    let end = rest.hasher;
-    let more = end.squeeze(z);
-    Statuses {
-        first: first.status,
-        early: early.status,
-        second: second.status,
-        closed: closed.status,
-        given: given.status,
-        late: late.status,
-        rest: rest.status,
-        more: more.status,
-    }
+    let begun = H::fresh().absorb(first);
+    let early = begun.hasher.squeeze(&mut byte);
+    let open = early.hasher.absorb(second);
+    let closed = close(open.hasher);
+    let given = closed.hasher.squeeze(&mut out[..10]);
+    let late = given.hasher.absorb(second);
+    let rest = late.hasher.squeeze(&mut out[10..last]);
+    let more = rest.hasher.squeeze(&mut out[last..]);
+    [
+        begun.status,
+        early.status,
+        open.status,
+        closed.status,
+        given.status,
+        late.status,
+        rest.status,
+        more.status,
+    ]
 }

@@ -1,41 +1,23 @@
 // The line of a function, and what stands in it.
-ghost use Rattle.std.specs.Prelude.{◌≤◌, length};
+ghost use Rattle.std.specs.Prelude.{◌<◌, ◌≤◌, length};
 
 use std::io;
 use std::io::ErrorKind;
 
 // The statuses of the calls on a run: a piece, a read before the close, the other piece, the close, a read, a piece after the close, and two
 // reads more, the last of one byte.
-#[derive(Clone, Copy)]
-pub struct Statuses {
-    pub first: u8,
-    pub early: u8,
-    pub second: u8,
-    pub closed: u8,
-    pub given: u8,
-    pub late: u8,
-    pub rest: u8,
-    pub more: u8,
-}
+pub type Statuses = [u8; 8];
 
 fn digit(status: u8) -> u8 {
     if status < 10 { b'0' + status } else { b'?' }
 }
 
-// Writes the digits of the statuses of a run, and a space before them.
-fn write_statuses(rt: &impl Print, run: Statuses) -> io::Result<()> {
-    let text = [
-        b' ',
-        digit(run.first),
-        digit(run.early),
-        digit(run.second),
-        digit(run.closed),
-        digit(run.given),
-        digit(run.late),
-        digit(run.rest),
-        digit(run.more),
-    ];
-    rt.write_all(&text)
+// Writes a digit for each status.
+pub fn write_statuses(rt: &impl Print, statuses: &[u8]) -> io::Result<()> {
+    for status in statuses {
+        rt.write_all(&[digit(*status)])?;
+    }
+    Ok(())
 }
 
 // Writes the bytes' digits, and what follows them.
@@ -47,56 +29,23 @@ fn write_part(rt: &impl Print, bytes: &[u8], then: &str) -> io::Result<()>
     if !hexadecimal::put(&mut text, 0, bytes) {
         return Err(io::Error::from(ErrorKind::Other));
     }
-    rt.write_all(&text[0..end])?;
+    rt.write_all(&text[..end])?;
     print!(rt; "{then}")
 }
 
-// The bytes of the run's three reads and of the two calls in one go follow the statuses.
-pub fn write_line(
-    rt: &impl Print,
-    name: &str,
-    run: Statuses,
-    hashed: u8,
-    longer: u8,
-    x: &[u8],
-    y: &[u8],
-    z: &[u8],
-    one: &[u8],
-    long: &[u8],
-) -> io::Result<()>
-    requires x_len_bound { length x.now ≤ 65 }
-    requires y_len_bound { length y.now ≤ 65 }
-    requires z_len_bound { length z.now ≤ 65 }
-    requires one_len_bound { length one.now ≤ 65 }
-    requires long_len_bound { length long.now ≤ 65 }
+// Writes what was read of a run, and a space before its last byte, of which nothing was read.
+pub fn write_read(rt: &impl Print, out: &[u8], then: &str) -> io::Result<()>
+    requires { (0 < length out.now) × (length out.now ≤ 65) }
 {
-    print!(rt; "{name}")?;
-    write_statuses(rt, run)?;
-    rt.write_all(&[digit(hashed), digit(longer), b' '])?;
-    write_part(rt, x, "")?;
-    write_part(rt, y, " ")?;
-    write_part(rt, z, " ")?;
-    write_part(rt, one, " ")?;
-    write_part(rt, long, "\n")
+    let (read, past) = out.split_at(out.len() - 1);
+    write_part(rt, read, " ")?;
+    write_part(rt, past, then)
 }
 
-// The line of a run on lent lanes: the bytes of its three reads follow the statuses.
-pub fn write_run(
-    rt: &impl Print,
-    name: &str,
-    run: Statuses,
-    x: &[u8],
-    y: &[u8],
-    z: &[u8],
-) -> io::Result<()>
-    requires x_len_bound { length x.now ≤ 65 }
-    requires y_len_bound { length y.now ≤ 65 }
-    requires z_len_bound { length z.now ≤ 65 }
+// Writes the bytes of the two calls in one go, and the line end.
+pub fn write_hashes(rt: &impl Print, one: &[u8], long: &[u8]) -> io::Result<()>
+    requires { (length one.now ≤ 65) × (length long.now ≤ 65) }
 {
-    print!(rt; "{name} in place")?;
-    write_statuses(rt, run)?;
-    print!(rt; " ")?;
-    write_part(rt, x, "")?;
-    write_part(rt, y, " ")?;
-    write_part(rt, z, "\n")
+    write_part(rt, one, " ")?;
+    write_part(rt, long, "\n")
 }

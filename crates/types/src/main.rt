@@ -7,175 +7,166 @@ mod by_value;
 mod in_place;
 mod line;
 
-ghost use Rattle.std.specs.Prelude.{◌≤◌, length};
+ghost use Rattle.std.specs.Prelude.{◌<◌, ◌≤◌, length};
 
-use fips202::{Sha3_224, Sha3_256, Sha3_384, Sha3_512, Shake128, Shake256};
-use std::io;
-use turboshake::{TurboShake128, TurboShake256};
+use fips202::{Fips202, Sha3_224, Sha3_256, Sha3_384, Sha3_512, Shake128, Shake256};
+use line::Statuses;
+use std::{array, io};
+use turboshake::{TurboShake, TurboShake128, TurboShake256};
 
 // TurboSHAKE's domain byte.
 const DOMAIN: u8 = 0x1f;
 
 const BEFORE: u8 = 0xa5;
 
-fn fill(message: &mut [u8]) {
-    let mut i: usize = 0;
-    while i < message.len() {
-        message[i] = (i % 251) as u8;
-        i += 1;
-    }
+// What the calls of a function's type answered: on a run, and in one go of its output's length and of a byte more.
+#[derive(Clone, Copy)]
+struct Answered {
+    run: Statuses,
+    hashed: u8,
+    longer: u8,
 }
 
-fn write_turboshake128(rt: &impl Print, message: &[u8]) -> io::Result<()>
-    requires { 67 ≤ length message.now }
+// The line of a function: `out` holds what was read of a run, `one` and `long` what the calls in one go gave.
+fn write_line(
+    rt: &impl Print,
+    name: &str,
+    answered: Answered,
+    out: &[u8],
+    one: &[u8],
+    long: &[u8],
+) -> io::Result<()>
+    requires out_fits { (0 < length out.now) × (length out.now ≤ 65) }
+    requires hashes_fit { (length one.now ≤ 65) × (length long.now ≤ 65) }
 {
-    let mut x = [BEFORE; 10];
-    let mut y = [BEFORE; 22];
-    let mut z = [BEFORE; 1];
-    let mut one = [BEFORE; 32];
-    let mut long = [BEFORE; 33];
-    let run = by_value::turboshake128(&message[0..67], &message[67..], &mut x, &mut y, &mut z);
-    let hashed = TurboShake128::hash(message, DOMAIN, &mut one);
-    let longer = TurboShake128::hash(message, DOMAIN, &mut long);
-    line::write_line(
-        rt,
-        "TurboSHAKE128",
+    print!(rt; "{name} ")?;
+    line::write_statuses(rt, &answered.run)?;
+    line::write_statuses(rt, &[answered.hashed, answered.longer])?;
+    print!(rt; " ")?;
+    line::write_read(rt, out, " ")?;
+    line::write_hashes(rt, one, long)
+}
+
+// The line of the run on lent lanes.
+fn write_in_place(rt: &impl Print, name: &str, run: Statuses, out: &[u8]) -> io::Result<()>
+    requires { (0 < length out.now) × (length out.now ≤ 65) }
+{
+    print!(rt; "{name} in place ")?;
+    line::write_statuses(rt, &run)?;
+    print!(rt; " ")?;
+    line::write_read(rt, out, "\n")
+}
+
+// TurboSHAKE, of which `size` bytes of output are read.
+fn turboshake<H: TurboShake>(
+    rt: &impl Print,
+    name: &str,
+    size: usize,
+    message: &[u8; 200],
+) -> io::Result<()>
+    requires { (10 ≤ size) × (size < 65) }
+{
+    let mut out = [BEFORE; 65];
+    let mut one = [BEFORE; 65];
+    let mut long = [BEFORE; 65];
+    let run = by_value::calls(message, |run: H| run.finalize(DOMAIN), &mut out[..size + 1]);
+    let hashed = H::hash(message, DOMAIN, &mut one[..size]);
+    let longer = H::hash(message, DOMAIN, &mut long[..size + 1]);
+    let answered = Answered {
         run,
         hashed,
         longer,
-        &x,
-        &y,
-        &z,
-        &one,
-        &long,
+    };
+    write_line(
+        rt,
+        name,
+        answered,
+        &out[..size + 1],
+        &one[..size],
+        &long[..size + 1],
     )
 }
 
-fn write_turboshake256(rt: &impl Print, message: &[u8]) -> io::Result<()>
-    requires { 67 ≤ length message.now }
+fn turboshake_in_place<H: TurboShake>(
+    rt: &impl Print,
+    name: &str,
+    size: usize,
+    message: &[u8; 200],
+) -> io::Result<()>
+    requires { (10 ≤ size) × (size < 65) }
 {
-    let mut x = [BEFORE; 10];
-    let mut y = [BEFORE; 54];
-    let mut z = [BEFORE; 1];
-    let mut one = [BEFORE; 64];
+    let mut out = [BEFORE; 65];
+    let run = in_place::calls::<H, _>(
+        message,
+        |lanes, at| H::finalize_in_place(lanes, at, DOMAIN),
+        &mut out[..size + 1],
+    );
+    write_in_place(rt, name, run, &out[..size + 1])
+}
+
+// A function of FIPS 202, of which `size` bytes of output are read.
+fn fips202<H: Fips202>(
+    rt: &impl Print,
+    name: &str,
+    size: usize,
+    message: &[u8; 200],
+) -> io::Result<()>
+    requires { (10 ≤ size) × (size < 65) }
+{
+    let mut out = [BEFORE; 65];
+    let mut one = [BEFORE; 65];
     let mut long = [BEFORE; 65];
-    let run = by_value::turboshake256(&message[0..67], &message[67..], &mut x, &mut y, &mut z);
-    let hashed = TurboShake256::hash(message, DOMAIN, &mut one);
-    let longer = TurboShake256::hash(message, DOMAIN, &mut long);
-    line::write_line(
-        rt,
-        "TurboSHAKE256",
+    let run = by_value::calls(message, |run: H| run.finalize(), &mut out[..size + 1]);
+    let hashed = H::hash(message, &mut one[..size]);
+    let longer = H::hash(message, &mut long[..size + 1]);
+    let answered = Answered {
         run,
         hashed,
         longer,
-        &x,
-        &y,
-        &z,
-        &one,
-        &long,
+    };
+    write_line(
+        rt,
+        name,
+        answered,
+        &out[..size + 1],
+        &one[..size],
+        &long[..size + 1],
     )
 }
 
-fn write_sha3_224(rt: &impl Print, message: &[u8]) -> io::Result<()>
-    requires { 67 ≤ length message.now }
+fn fips202_in_place<H: Fips202>(
+    rt: &impl Print,
+    name: &str,
+    size: usize,
+    message: &[u8; 200],
+) -> io::Result<()>
+    requires { (10 ≤ size) × (size < 65) }
 {
-    let mut x = [BEFORE; 10];
-    let mut y = [BEFORE; 18];
-    let mut z = [BEFORE; 1];
-    let mut one = [BEFORE; 28];
-    let mut long = [BEFORE; 29];
-    let run = by_value::sha3_224(&message[0..67], &message[67..], &mut x, &mut y, &mut z);
-    let hashed = Sha3_224::hash(message, &mut one);
-    let longer = Sha3_224::hash(message, &mut long);
-    line::write_line(rt, "SHA3-224", run, hashed, longer, &x, &y, &z, &one, &long)
-}
-
-fn write_sha3_256(rt: &impl Print, message: &[u8]) -> io::Result<()>
-    requires { 67 ≤ length message.now }
-{
-    let mut x = [BEFORE; 10];
-    let mut y = [BEFORE; 22];
-    let mut z = [BEFORE; 1];
-    let mut one = [BEFORE; 32];
-    let mut long = [BEFORE; 33];
-    let run = by_value::sha3_256(&message[0..67], &message[67..], &mut x, &mut y, &mut z);
-    let hashed = Sha3_256::hash(message, &mut one);
-    let longer = Sha3_256::hash(message, &mut long);
-    line::write_line(rt, "SHA3-256", run, hashed, longer, &x, &y, &z, &one, &long)
-}
-
-fn write_sha3_384(rt: &impl Print, message: &[u8]) -> io::Result<()>
-    requires { 67 ≤ length message.now }
-{
-    let mut x = [BEFORE; 10];
-    let mut y = [BEFORE; 38];
-    let mut z = [BEFORE; 1];
-    let mut one = [BEFORE; 48];
-    let mut long = [BEFORE; 49];
-    let run = by_value::sha3_384(&message[0..67], &message[67..], &mut x, &mut y, &mut z);
-    let hashed = Sha3_384::hash(message, &mut one);
-    let longer = Sha3_384::hash(message, &mut long);
-    line::write_line(rt, "SHA3-384", run, hashed, longer, &x, &y, &z, &one, &long)
-}
-
-fn write_sha3_512(rt: &impl Print, message: &[u8]) -> io::Result<()>
-    requires { 67 ≤ length message.now }
-{
-    let mut x = [BEFORE; 10];
-    let mut y = [BEFORE; 54];
-    let mut z = [BEFORE; 1];
-    let mut one = [BEFORE; 64];
-    let mut long = [BEFORE; 65];
-    let run = by_value::sha3_512(&message[0..67], &message[67..], &mut x, &mut y, &mut z);
-    let hashed = Sha3_512::hash(message, &mut one);
-    let longer = Sha3_512::hash(message, &mut long);
-    line::write_line(rt, "SHA3-512", run, hashed, longer, &x, &y, &z, &one, &long)
-}
-
-fn write_shake128(rt: &impl Print, message: &[u8]) -> io::Result<()>
-    requires { 67 ≤ length message.now }
-{
-    let mut x = [BEFORE; 10];
-    let mut y = [BEFORE; 22];
-    let mut z = [BEFORE; 1];
-    let mut one = [BEFORE; 32];
-    let mut long = [BEFORE; 33];
-    let run = by_value::shake128(&message[0..67], &message[67..], &mut x, &mut y, &mut z);
-    let hashed = Shake128::hash(message, &mut one);
-    let longer = Shake128::hash(message, &mut long);
-    line::write_line(rt, "SHAKE128", run, hashed, longer, &x, &y, &z, &one, &long)
-}
-
-fn write_shake256(rt: &impl Print, message: &[u8]) -> io::Result<()>
-    requires { 67 ≤ length message.now }
-{
-    let mut x = [BEFORE; 10];
-    let mut y = [BEFORE; 54];
-    let mut z = [BEFORE; 1];
-    let mut one = [BEFORE; 64];
-    let mut long = [BEFORE; 65];
-    let run = by_value::shake256(&message[0..67], &message[67..], &mut x, &mut y, &mut z);
-    let hashed = Shake256::hash(message, &mut one);
-    let longer = Shake256::hash(message, &mut long);
-    line::write_line(rt, "SHAKE256", run, hashed, longer, &x, &y, &z, &one, &long)
-}
-
-fn write_runs(rt: &impl Print, message: &[u8]) -> io::Result<()>
-    requires { 67 ≤ length message.now }
-{
-    write_turboshake128(rt, message)?;
-    write_turboshake256(rt, message)?;
-    write_sha3_224(rt, message)?;
-    write_sha3_256(rt, message)?;
-    write_sha3_384(rt, message)?;
-    write_sha3_512(rt, message)?;
-    write_shake128(rt, message)?;
-    write_shake256(rt, message)
+    let mut out = [BEFORE; 65];
+    let run = in_place::calls::<H, _>(
+        message,
+        |lanes, at| H::finalize_in_place(lanes, at),
+        &mut out[..size + 1],
+    );
+    write_in_place(rt, name, run, &out[..size + 1])
 }
 
 fn main(rt: HostRuntime) -> io::Result<()> {
-    let mut message = [0u8; 200];
-    fill(&mut message);
-    write_runs(&rt, &message)?;
-    in_place::write_runs(&rt, &message)
+    let message: [u8; 200] = array::from_fn(|i| (i % 251) as u8);
+    turboshake::<TurboShake128>(&rt, "TurboSHAKE128", 32, &message)?;
+    turboshake::<TurboShake256>(&rt, "TurboSHAKE256", 64, &message)?;
+    fips202::<Sha3_224>(&rt, "SHA3-224", 28, &message)?;
+    fips202::<Sha3_256>(&rt, "SHA3-256", 32, &message)?;
+    fips202::<Sha3_384>(&rt, "SHA3-384", 48, &message)?;
+    fips202::<Sha3_512>(&rt, "SHA3-512", 64, &message)?;
+    fips202::<Shake128>(&rt, "SHAKE128", 32, &message)?;
+    fips202::<Shake256>(&rt, "SHAKE256", 64, &message)?;
+    turboshake_in_place::<TurboShake128>(&rt, "TurboSHAKE128", 32, &message)?;
+    turboshake_in_place::<TurboShake256>(&rt, "TurboSHAKE256", 64, &message)?;
+    fips202_in_place::<Sha3_224>(&rt, "SHA3-224", 28, &message)?;
+    fips202_in_place::<Sha3_256>(&rt, "SHA3-256", 32, &message)?;
+    fips202_in_place::<Sha3_384>(&rt, "SHA3-384", 48, &message)?;
+    fips202_in_place::<Sha3_512>(&rt, "SHA3-512", 64, &message)?;
+    fips202_in_place::<Shake128>(&rt, "SHAKE128", 32, &message)?;
+    fips202_in_place::<Shake256>(&rt, "SHAKE256", 64, &message)
 }

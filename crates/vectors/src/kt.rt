@@ -1,181 +1,156 @@
 // The KT vectors: the customization string is ptn too.
-ghost use Rattle.std.specs.Prelude.{◌<◌, ◌≤◌, length};
+ghost use Rattle.std.specs.Prelude.{◌≤◌};
 
-use crate::{LONGEST, PIECE, fill, least, write_answer, write_kind};
+use crate::POWERS;
+use crate::line::write_digest;
+use crate::message::{Message, fill_pattern};
+use crate::pieces::{PIECE, Pieces, done};
 use functions::kt::{KtAnswer, KtFunction};
+use hasher::Refusal;
 use kangarootwelve::Run;
-use sponge::status::DONE;
 use std::io;
 
-// The vectors that follow the powers of 17: whether the message is of FF bytes, its length, and the customization string's.
-const ARE_FF: [bool; 8] = [false, true, true, true, false, false, false, false];
+// The vectors that follow the powers of 17: the message, and the customization string's length.
+const CUSTOMIZED: [(Message, usize); 8] = [
+    (Message::Pattern(0), 1),
+    (Message::Ff(1), 41),
+    (Message::Ff(3), 1681),
+    (Message::Ff(7), 68921),
+    (Message::Pattern(8191), 0),
+    (Message::Pattern(8192), 0),
+    (Message::Pattern(8192), 8189),
+    (Message::Pattern(8192), 8190),
+];
 
-const LENGTHS: [usize; 8] = [0, 1, 3, 7, 8191, 8192, 8192, 8192];
+// Kept: the enum is of `functions`, which has no Display of it.
+fn name(function: KtFunction) -> &'static str {
+    match function {
+        KtFunction::Kt128 => "KT128",
+        KtFunction::Kt256 => "KT256",
+    }
+}
 
-const CUSTOMIZATIONS: [usize; 8] = [1, 41, 1681, 68921, 0, 0, 8189, 8190];
+// The bytes that most vectors ask.
+fn output(function: KtFunction) -> usize
+    ensures { result ≤ 64 }
+{
+    match function {
+        KtFunction::Kt128 => 32,
+        KtFunction::Kt256 => 64,
+    }
+}
 
 #[derive(Clone, Copy)]
-struct KtVector {
+struct KtRun {
     function: KtFunction,
-    is_ff: bool,
-    length: usize,
-    asked: usize,
+    run: Run,
 }
 
-// Absorbs n bytes of message, each piece from the buffer's start, and stops at a call that is refused.
-fn absorb_message(function: KtFunction, buffer: &[u8], n: usize) -> KtAnswer
-    requires { 8032 ≤ length buffer.now }
-{
-    let run = functions::kt::fresh(function);
-    let mut answer = KtAnswer { run, status: DONE };
-    let mut left = n;
-    while 0 < left && answer.status == DONE {
-        let k = least(left, PIECE);
-        let given = answer.run;
-        answer = functions::kt::absorb(function, given, &buffer[0..k]);
-        left -= k;
+impl KtRun {
+    fn fresh(function: KtFunction) -> KtRun {
+        let run = functions::kt::fresh(function);
+        KtRun { function, run }
     }
-    answer
-}
 
-// Squeezes the output in two halves, and answers the last call's status.
-fn squeeze_output(function: KtFunction, run: Run, out: &mut [u8]) -> u8 {
-    let half = out.len() / 2;
-    let first = functions::kt::squeeze(function, run, &mut out[0..half]);
-    if first.status != DONE {
-        return first.status;
+    // Kept: `functions` answers its calls by a type for each kind of run.
+    fn keep(&mut self, answer: KtAnswer) -> Result<(), Refusal> {
+        self.run = answer.run;
+        done(answer.status)
     }
-    let next = first.run;
-    let rest = functions::kt::squeeze(function, next, &mut out[half..]);
-    rest.status
-}
 
-// The same of a run that a finalize or a finish handed back, unless that call was refused.
-fn squeeze_closed(function: KtFunction, closed: KtAnswer, out: &mut [u8]) -> u8 {
-    if closed.status != DONE {
-        return closed.status;
+    fn customize(&mut self, piece: &[u8]) -> Result<(), Refusal> {
+        self.keep(functions::kt::customize(self.function, self.run, piece))
     }
-    let run = closed.run;
-    squeeze_output(function, run, out)
-}
 
-// A fresh run that has absorbed the vector's message.
-fn absorb_vector(vector: KtVector) -> KtAnswer {
-    let function = vector.function;
-    let mut buffer = [0u8; 8192];
-    fill(&mut buffer, vector.is_ff);
-    absorb_message(function, &buffer, vector.length)
-}
-
-// Absorbs the customization string in pieces, each from the string's start: it is ptn, and a piece is a multiple of its period. Stops at a
-// call that is refused. An empty string is one empty piece: a first piece there must be, or the run would not leave the message.
-fn customize_pieces(function: KtFunction, run: Run, customization: &[u8]) -> KtAnswer {
-    let first = least(customization.len(), PIECE);
-    let mut answer = functions::kt::customize(function, run, &customization[0..first]);
-    let mut left = customization.len() - first;
-    while 0 < left && answer.status == DONE {
-        let k = least(left, PIECE);
-        let given = answer.run;
-        answer = functions::kt::customize(function, given, &customization[0..k]);
-        left -= k;
+    // An empty string is one empty piece: a first piece there must be, or the run would not leave the message.
+    fn customize_pieces(&mut self, customization: &[u8]) -> Result<(), Refusal> {
+        let (first, rest) = customization.split_at(PIECE.min(customization.len()));
+        self.customize(first)?;
+        for piece in rest.chunks(PIECE) {
+            self.customize(piece)?;
+        }
+        Ok(())
     }
-    answer
+
+    fn finalize(&mut self, customization: &[u8]) -> Result<(), Refusal> {
+        self.keep(functions::kt::finalize(self.function, self.run, customization))
+    }
+
+    fn finish(&mut self) -> Result<(), Refusal> {
+        self.keep(functions::kt::finish(self.function, self.run))
+    }
 }
 
-// The vector's output by a finalize with the whole customization string. Answers the status of the first call that is refused, or 0.
-fn digest(vector: KtVector, customization: &[u8], out: &mut [u8]) -> u8 {
-    let function = vector.function;
-    let absorbed = absorb_vector(vector);
-    if absorbed.status != DONE {
-        return absorbed.status;
+impl Pieces for KtRun {
+    fn absorb(&mut self, piece: &[u8]) -> Result<(), Refusal> {
+        self.keep(functions::kt::absorb(self.function, self.run, piece))
     }
-    let open = absorbed.run;
-    let finalized = functions::kt::finalize(function, open, customization);
-    squeeze_closed(function, finalized, out)
+
+    fn squeeze(&mut self, out: &mut [u8]) -> Result<(), Refusal> {
+        self.keep(functions::kt::squeeze(self.function, self.run, out))
+    }
+}
+
+// The output by a finalize with the whole customization string, up to the first call that is refused.
+fn digest(
+    function: KtFunction,
+    message: Message,
+    customization: &[u8],
+    out: &mut [u8],
+) -> Result<(), Refusal> {
+    let mut run = KtRun::fresh(function);
+    run.absorb_message(message)?;
+    run.finalize(customization)?;
+    run.squeeze_halves(out)
 }
 
 // The same by pieces of the customization string and a finish.
-fn digest_by_pieces(vector: KtVector, customization: &[u8], out: &mut [u8]) -> u8 {
-    let function = vector.function;
-    let absorbed = absorb_vector(vector);
-    if absorbed.status != DONE {
-        return absorbed.status;
-    }
-    let open = absorbed.run;
-    let customized = customize_pieces(function, open, customization);
-    if customized.status != DONE {
-        return customized.status;
-    }
-    let given = customized.run;
-    let finished = functions::kt::finish(function, given);
-    squeeze_closed(function, finished, out)
+fn digest_by_pieces(
+    function: KtFunction,
+    message: Message,
+    customization: &[u8],
+    out: &mut [u8],
+) -> Result<(), Refusal> {
+    let mut run = KtRun::fresh(function);
+    run.absorb_message(message)?;
+    run.customize_pieces(customization)?;
+    run.finish()?;
+    run.squeeze_halves(out)
 }
 
 // The same in one go, for a message no longer than the buffer.
-fn digest_in_one_go(vector: KtVector, customization: &[u8], out: &mut [u8]) -> u8 {
-    let function = vector.function;
+fn digest_in_one_go(
+    function: KtFunction,
+    message: Message,
+    customization: &[u8],
+    out: &mut [u8],
+) -> Result<(), Refusal> {
     let mut buffer = [0u8; 8192];
-    fill(&mut buffer, vector.is_ff);
-    let n = least(vector.length, 8192);
-    functions::kt::hash(function, &buffer[0..n], customization, out)
-}
-
-fn write_name(rt: &impl Print, function: KtFunction) -> io::Result<()> {
-    match function {
-        KtFunction::Kt128 => print!(rt; "KT128 "),
-        KtFunction::Kt256 => print!(rt; "KT256 "),
-    }
-}
-
-// Writes the number and a space.
-fn write_number(rt: &impl Print, n: usize) -> io::Result<()> {
-    print!(rt; "{n} ")
-}
-
-// What was asked, up to the space before the digest.
-fn write_asked(rt: &impl Print, vector: KtVector, customization: usize) -> io::Result<()> {
-    let function = vector.function;
-    write_name(rt, function)?;
-    write_kind(rt, vector.is_ff)?;
-    write_number(rt, vector.length)?;
-    write_number(rt, customization)?;
-    write_number(rt, vector.asked)
+    message.fill(&mut buffer);
+    let whole = &buffer[..message.length().min(8192)];
+    done(functions::kt::hash(function, whole, customization, out))
 }
 
 // Writes what was asked, and the digest by a finalize.
-fn write_digest(rt: &impl Print, vector: KtVector, customization: &[u8]) -> io::Result<()>
-    requires { vector.asked ≤ 10064 }
+fn write_asked(
+    rt: &impl Print,
+    function: KtFunction,
+    message: Message,
+    customization: &[u8],
+    asked: usize,
+) -> io::Result<()>
+    requires { asked ≤ 10064 }
 {
-    let mut buffer = [0u8; 10064];
-    let asked = vector.asked;
-    let out = &mut buffer[0..asked];
-    let status = digest(vector, customization, out);
-    write_asked(rt, vector, customization.len())?;
-    write_answer(rt, status, out)
-}
-
-// Writes a space and the digest by pieces, in a buffer that no other call wrote to.
-fn write_by_pieces(rt: &impl Print, vector: KtVector, customization: &[u8]) -> io::Result<()>
-    requires { vector.asked ≤ 64 }
-{
-    let mut buffer = [0u8; 64];
-    let asked = vector.asked;
-    let out = &mut buffer[0..asked];
-    let status = digest_by_pieces(vector, customization, out);
-    print!(rt; " ")?;
-    write_answer(rt, status, out)
-}
-
-// The same in one go.
-fn write_in_one_go(rt: &impl Print, vector: KtVector, customization: &[u8]) -> io::Result<()>
-    requires { vector.asked ≤ 64 }
-{
-    let mut buffer = [0u8; 64];
-    let asked = vector.asked;
-    let out = &mut buffer[0..asked];
-    let status = digest_in_one_go(vector, customization, out);
-    print!(rt; " ")?;
-    write_answer(rt, status, out)
+    print!(rt;
+        "{} {message} {} {asked}",
+        name(function),
+        customization.len()
+    )?;
+    write_digest(
+        rt,
+        asked,
+        |out| digest(function, message, customization, out),
+    )
 }
 
 // A message of ptn, with no customization string.
@@ -187,85 +162,56 @@ fn write_pattern(
 ) -> io::Result<()>
     requires { asked ≤ 10064 }
 {
-    let customization = [0u8; 0];
-    let vector = KtVector {
-        function,
-        is_ff: false,
-        length,
-        asked,
-    };
-    write_digest(rt, vector, &customization)?;
+    write_asked(rt, function, Message::Pattern(length), b"", asked)?;
     println!(rt)
 }
 
-// The messages ptn(17**0) to ptn(17**6).
-fn write_powers(rt: &impl Print, function: KtFunction, asked: usize) -> io::Result<()>
-    requires { asked ≤ 10064 }
-{
-    let mut length: usize = 1;
-    while length <= LONGEST {
-        write_pattern(rt, function, length, asked)?;
-        length *= 17;
+fn write_powers(rt: &impl Print, function: KtFunction) -> io::Result<()> {
+    for length in POWERS {
+        write_pattern(rt, function, length, output(function))?;
     }
     Ok(())
 }
 
-// The i-th vector that follows, its digest three times.
+// A line with the digest three times.
 fn write_customized(
     rt: &impl Print,
     function: KtFunction,
-    i: usize,
-    asked: usize,
-    pattern: &[u8],
-) -> io::Result<()>
-    requires { (i < 8) × (asked ≤ 64) }
-{
-    let vector = KtVector {
-        function,
-        is_ff: ARE_FF[i],
-        length: LENGTHS[i],
+    message: Message,
+    customization: &[u8],
+) -> io::Result<()> {
+    let asked = output(function);
+    write_asked(rt, function, message, customization, asked)?;
+    write_digest(
+        rt,
         asked,
-    };
-    let k = least(CUSTOMIZATIONS[i], pattern.len());
-    let customization = &pattern[0..k];
-    write_digest(rt, vector, customization)?;
-    write_by_pieces(rt, vector, customization)?;
-    write_in_one_go(rt, vector, customization)?;
+        |out| digest_by_pieces(function, message, customization, out),
+    )?;
+    write_digest(
+        rt,
+        asked,
+        |out| digest_in_one_go(function, message, customization, out),
+    )?;
     println!(rt)
 }
 
-fn write_all_customized(
-    rt: &impl Print,
-    function: KtFunction,
-    asked: usize,
-    pattern: &[u8],
-) -> io::Result<()>
-    requires { asked ≤ 64 }
-{
-    for i in 0..8 {
-        write_customized(rt, function, i, asked, pattern)?;
+fn write_all_customized(rt: &impl Print, function: KtFunction, pattern: &[u8]) -> io::Result<()> {
+    for (message, n) in CUSTOMIZED {
+        write_customized(rt, function, message, &pattern[..n.min(pattern.len())])?;
     }
     Ok(())
-}
-
-fn write_function(
-    rt: &impl Print,
-    function: KtFunction,
-    asked: usize,
-    pattern: &[u8],
-) -> io::Result<()>
-    requires { asked ≤ 64 }
-{
-    write_pattern(rt, function, 0, asked)?;
-    write_pattern(rt, function, 0, 2 * asked)?;
-    write_pattern(rt, function, 0, 10000 + asked)?;
-    write_powers(rt, function, asked)?;
-    write_all_customized(rt, function, asked, pattern)
 }
 
 pub fn write_vectors(rt: &impl Print) -> io::Result<()> {
     let mut pattern = [0u8; 68921];
-    fill(&mut pattern, false);
-    write_function(rt, KtFunction::Kt128, 32, &pattern)?;
-    write_function(rt, KtFunction::Kt256, 64, &pattern)
+    fill_pattern(&mut pattern);
+    for function in [KtFunction::Kt128, KtFunction::Kt256] {
+        let asked = output(function);
+        write_pattern(rt, function, 0, asked)?;
+        write_pattern(rt, function, 0, 2 * asked)?;
+        write_pattern(rt, function, 0, 10000 + asked)?;
+        write_powers(rt, function)?;
+        write_all_customized(rt, function, &pattern)?;
+    }
+    Ok(())
 }

@@ -5,8 +5,7 @@ use mathlib.Core.Logic.{◌≢◌}
 use Prim.Native.Nat.{◌<◌}
 use native.Mathlib.Omega.{arith}
 use lib.ListN.{length}
-use Rattle.keccak.specs.Permutation.{round_constants}
-use Rattle.keccak.proofs.Rounds.{one_more, none_left, last_rounds_lem}
+use Rattle.keccak.proofs.Rounds.{one_more, none_left, last_constants}
 use Rattle.abreast.specs.Four.{state_at}
 use Rattle.abreast.proofs.Four.{permuted-each, permuted-other_length, permuted-none, status_12, status_16, status_0}
 use Rattle.abreast.proofs.permute_in_place.Goals as goal
@@ -28,35 +27,31 @@ returns-then-rounds-gt24 c =
       states_after = permuted-none a.rounds a.states.now h more;
     }
 
-pub loop-i-init : goal.loop-i-init
-loop-i-init c =
+pub loop-rc-init : goal.loop-rc-init
+loop-rc-init c =
     let a = c.args in
-    (omega arith, (c.if-states-ne100.false, λ k h. last_rounds_lem a.rounds (state_at k a.states.now) c.if-rounds-gt24.false))
+    (c.if-states-ne100.false, λ k h. last_constants a.rounds (state_at k a.states.now) c.if-rounds-gt24.false)
 
 pub round-requires : goal.round-requires
-round-requires c = c.loop-i.invariant.1.0
+round-requires c = c.loop-rc.invariant.0
 
-pub loop-i-preserved : goal.loop-i-preserved
-loop-i-preserved c =
-    let at = c.loop-i in (
-      omega (arith, c.loop-i-test.true),
-      (
-        c.round.ensures.words,
-        λ k h. one_more round_constants (state_at k at.states) _ _ at.i c.loop-i-test.true (c.round.ensures.each k h) (at.invariant.1.1 k h),
-      ),
+pub loop-rc-preserved : goal.loop-rc-preserved
+loop-rc-preserved c =
+    let at = c.loop-rc in (
+      c.round.ensures.words,
+      λ k h. one_more _ (state_at k at.states) _ _ _ c.loop-rc-test.true (c.round.ensures.each k h) (at.invariant.1 k h),
     )
 
 pub shape_of-states : goal.shape_of-states
-shape_of-states c = c.loop-i.invariant.1.0 ∙ sym c.if-states-ne100.false
+shape_of-states c = c.loop-rc.invariant.0 ∙ sym c.if-states-ne100.false
 
 pub returns : goal.returns
 returns c =
-    let at = c.loop-i in
+    let at = c.loop-rc in
     let a = c.args in
     let s = a.states.now in
-    let h : length s ≡ 100 = c.if-states-ne100.false in
-    let all : at.i ≡ 24 = omega arith in record {
+    let h : length s ≡ 100 = c.if-states-ne100.false in record {
       value = status_0 (length s) a.rounds h c.if-rounds-gt24.false;
       states_after = permuted-each a.rounds s at.states h
-          (record { words = at.invariant.1.0; each = λ k g. none_left round_constants (state_at k at.states) _ at.i all (at.invariant.1.1 k g) });
+          (record { words = at.invariant.0; each = λ k g. none_left _ (state_at k at.states) _ at.rc-index (omega arith) (at.invariant.1 k g) });
     }

@@ -2,44 +2,35 @@
 -- Assumes nothing.
 use mathlib.Core.Path.{◌≡◌, sym, ap, ap₂, ◌∙◌}
 use mathlib.Core.List.{List, ◌++◌, append_assoc}
-use Prim.Native.Nat.{ℕ, ◌-◌, ◌≤◌}
-use native.Mathlib.Nat.{le_of_eq}
+use Prim.Native.Nat.{ℕ, ◌≤◌}
 use native.Mathlib.Omega.{arith}
-use lib.ListN.{length, take, drop}
+use lib.ListN.{length, take}
 use Rattle.kangarootwelve.specs.Published.{length_encode}
-use Rattle.kangarootwelve.proofs.Encoding.{encoding_start, encoding_length, encoding_part}
+use Rattle.kangarootwelve.proofs.Encoding.{encoding_short, encoding_slice}
 use Rattle.journal.proofs.Messages.{framed_is}
 use borrow.Author.Rules.{rules}
 use Rattle.day.proofs.put_event.Goals as goal
 
-pub slice_bounds-put-count : goal.slice_bounds-put-count
-slice_bounds-put-count c =
+pub put-requires : goal.put-requires
+put-requires c =
+    let a = c.args in
     let n = c.length_encode-encoding in
-    let start : n.result.start ≤ 9 = encoding_start _ n.result n.ensures in
+    let slice : c.as_slice.result.now ≡ length_encode (length a.event.now) = encoding_slice (length a.event.now) n.result n.ensures c.as_slice.result.now c.as_slice.ensures in
+    let short : length c.as_slice.result.now ≤ 9 = rw slice (encoding_short (length a.event.now) 8 (omega arith)) in
     search rules
-
-pub slice_bounds-put-start : goal.slice_bounds-put-start
-slice_bounds-put-start c =
-    let n = c.length_encode-encoding in
-    let start : n.result.start ≤ 9 = encoding_start _ n.result n.ensures in
-    search rules
-
-pub slice_bounds-put-end : goal.slice_bounds-put-end
-slice_bounds-put-end c =
-    let n = c.length_encode-encoding in
-    le_of_eq (sym (encoding_length _ n.result n.ensures (omega arith)))
 
 pub returns : goal.returns
 returns c =
     let a = c.args in
     let first = c.put-end in
-    let n = c.length_encode-encoding in
     let second = c.put in
+    let n = c.length_encode-encoding in
     let before : List ℕ = take a.at a.day.now in
-    let encoding : take (9 - n.result.start) (drop n.result.start n.result.bytes) ≡ length_encode (length a.event.now) = encoding_part (length a.event.now) n.result n.ensures (omega arith) in record {
+    let slice : c.as_slice.result.now ≡ length_encode (length a.event.now) = encoding_slice (length a.event.now) n.result n.ensures c.as_slice.result.now c.as_slice.ensures in
+    let short : length c.as_slice.result.now ≤ 9 = rw slice (encoding_short (length a.event.now) 8 (omega arith)) in record {
       upper_bound = search rules;
       day_after = second.ensures.day_after
-          ∙ ap₂ (λ (l m : List ℕ). l ++ m) first.ensures.day_after encoding
+          ∙ ap₂ (λ (l m : List ℕ). l ++ m) first.ensures.day_after slice
           ∙ append_assoc before a.event.now (length_encode (length a.event.now))
           ∙ ap (λ (l : List ℕ). before ++ l) (sym (framed_is a.event.now));
     }

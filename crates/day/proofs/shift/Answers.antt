@@ -1,46 +1,29 @@
--- `day::shift` meets its contract: a call that is not answered 0 ends it, and those that are give the digest.
+-- `day::shift` meets its contract: each event is appended to the day that has taken those before it, and the day is ended and read.
 -- Assumes nothing.
-use mathlib.Core.Path.{ap}
-use mathlib.Core.List.{[], ◌∷◌}
+use mathlib.Core.Path.{refl, sym, ap, ap₂, ◌∙◌}
+use lib.Seq.{take_all}
+use Rattle.std.proofs.Common.{rules, arith, ◌≤◌, length, take, List, ℕ, Bor}
+use Rattle.journal.specs.Published as published
 use Rattle.journal.specs.declared.Answer.{Answer}
-use Rattle.day.proofs.Events.{Took, fresh_took, append_took, digest}
+use Rattle.day.proofs.Events.{bytes, fresh_took, append_next, digest}
 use Rattle.day.proofs.shift.Goals as goal
 
-pub returns-then-first-ne-DONE : goal.returns-then-first-ne-DONE
-returns-then-first-ne-DONE c e = absurd (c.if-first-ne-DONE.true e)
+pub loop-event-init : goal.loop-event-init
+loop-event-init g c = fresh_took c.fresh-day.result c.fresh-day.ensures
 
-pub returns-then-second-ne-DONE : goal.returns-then-second-ne-DONE
-returns-then-second-ne-DONE c e = absurd (c.if-second-ne-DONE.true e)
+pub loop-event-preserved : goal.loop-event-preserved
+loop-event-preserved g c =
+    let l = c.loop-event in
+    append_next c.args.events.now l.event-index c.loop-event-test.true l.day (record { journal = c.in_ok-day.day; status = 0 }) l.invariant
+    (sym c.in_ok-day.ensures.ok ∙ c.append.ensures) refl
 
-pub returns-then-third-ne-DONE : goal.returns-then-third-ne-DONE
-returns-then-third-ne-DONE c e = absurd (c.if-third-ne-DONE.true e)
-
-pub returns-then-fourth-ne-DONE : goal.returns-then-fourth-ne-DONE
-returns-then-fourth-ne-DONE c e = absurd (c.if-fourth-ne-DONE.true e)
-
-pub returns-then-fifth-ne-DONE : goal.returns-then-fifth-ne-DONE
-returns-then-fifth-ne-DONE c e = absurd (c.if-fifth-ne-DONE.true e)
-
-pub returns-then-ended-ne-DONE : goal.returns-then-ended-ne-DONE
-returns-then-ended-ne-DONE c e = absurd (c.if-ended-ne-DONE.true e)
-
--- at-x: where the call x has been answered 0
 pub returns : goal.returns
-returns c e =
+returns g c =
     let a = c.args in
-    let fresh = c.fresh-day in
-    let on = c.append-first in
-    let level = c.append-second in
-    let quiet = c.append-third in
-    let dump = c.append-fourth in
-    let off = c.append-fifth in
-    let ended = c.finalize-ended in
+    let l = c.loop-event in
     let q = c.squeeze in
-    let t0 : Took fresh.result [] = fresh_took fresh.result fresh.ensures in
-    let t1 = append_took fresh.result [] a.on.now on.result t0 on.ensures c.if-first-ne-DONE.false in
-    let t2 = append_took on.result.journal (a.on.now ∷ []) a.level.now level.result t1 level.ensures c.if-second-ne-DONE.false in
-    let t3 = append_took level.result.journal (a.on.now ∷ a.level.now ∷ []) a.quiet.now quiet.result t2 quiet.ensures c.if-third-ne-DONE.false in
-    let t4 = append_took quiet.result.journal (a.on.now ∷ a.level.now ∷ a.quiet.now ∷ []) a.dump.now dump.result t3 dump.ensures c.if-fourth-ne-DONE.false in
-    let t5 = append_took dump.result.journal (a.on.now ∷ a.level.now ∷ a.quiet.now ∷ a.dump.now ∷ []) a.off.now off.result t4 off.ensures c.if-fifth-ne-DONE.false in
-    digest off.result.journal (a.on.now ∷ a.level.now ∷ a.quiet.now ∷ a.dump.now ∷ a.off.now ∷ []) a.name.now a.out.now ended.result q.result.status q.new.out
-    t5 ended.ensures c.if-ended-ne-DONE.false (ap (λ (x : Answer). x.status) q.ensures.value) q.ensures.out_after e
+    let ended : Answer = record { journal = c.in_ok-ended.ended; status = 0 } in
+    let all : length a.events.now ≤ l.event-index = omega (arith, c.loop-event-test.false) in
+    digest l.day (bytes (take l.event-index a.events.now)) a.name.now _ ended 0 q.new.out l.invariant (sym c.in_ok-ended.ensures.ok ∙ c.finalize.ensures) refl
+    (ap (λ (x : Answer). x.status) (sym c.in_ok-taken.ensures.ok ∙ q.ensures.value)) q.ensures.out_after refl
+    ∙ ap₂ (λ (x : List (Bor (List ℕ))) (n : ℕ). published.digest (bytes x) a.name.now n) (take_all l.event-index a.events.now all) (search rules)

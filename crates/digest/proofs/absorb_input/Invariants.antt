@@ -1,10 +1,7 @@
--- `digest::absorb_input` meets its contract. The measure is the number of turns that are left.
+-- `digest::absorb_input` meets its contract.
 -- Assumes nothing.
-use Rattle.digest.specs.Digest.{Absorbs}
+use Rattle.digest.specs.Digest.{Absorbed}
 use Rattle.digest.proofs.absorb_input.Given as goal
 
-abbrev pub invariant-loop-turns : goal.invariant-loop-turns
-invariant-loop-turns g l = Absorbs l.absorbed.answer
-
-abbrev pub decreases-loop-turns : goal.decreases-loop-turns
-decreases-loop-turns g l = l.turns
+abbrev pub invariant-loop : goal.invariant-loop
+invariant-loop g l = Absorbed l.hasher.run

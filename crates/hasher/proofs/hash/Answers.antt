@@ -20,6 +20,6 @@ returns-in-Err c =
     let a = c.args in
     let n = a.numbers in
     let e = c.in-Err.ensures.refused in record {
-      value = at_refused n.rate n.rounds n.limit a.message.now a.refusal a.last a.out.now c.in-Err.number e.1 e.0;
-      out_after = at_untouched n.rate n.rounds n.limit a.message.now a.refusal a.last a.out.now c.in-Err.number e.1 e.0;
+      value = at_refused n.rate n.rounds n.limit a.message.now a.refusal a.last a.out.now c.in-Err.of_numbers.status e.1 e.0;
+      out_after = at_untouched n.rate n.rounds n.limit a.message.now a.refusal a.last a.out.now c.in-Err.of_numbers.status e.1 e.0;
     }

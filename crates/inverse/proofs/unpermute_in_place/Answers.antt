@@ -19,19 +19,19 @@ pub loop-left-init : goal.loop-left-init
 loop-left-init c =
     let a = c.args in
     let h : a.rounds ≤ 24 = omega arith in
-    (omega arith, all_left a.rounds a.lanes.now h)
+    all_left a.rounds a.lanes.now h
 
 pub loop-left-preserved : goal.loop-left-preserved
 loop-left-preserved c =
     let at = c.loop-left in
     let n = c.args.rounds in
     let most : n ≤ 24 = omega arith in
-    (omega arith, one_less n at.a c.unround-b.result _ at.left (omega arith) at.invariant.0 most c.unround-b.ensures at.invariant.1)
+    one_less n at.a c.unround-b.result _ at.left (omega arith) (omega arith) most c.unround-b.ensures at.invariant
 
 pub returns : goal.returns
 returns c =
     let at = c.loop-left in
     record {
       value = all_taken c.args.rounds c.if-rounds-gt24.false;
-      lanes_after = all_undone _ at.a _ at.left (omega arith) at.invariant.1;
+      lanes_after = all_undone _ at.a _ at.left (omega arith) at.invariant;
     }

@@ -1,39 +1,32 @@
-use mathlib.Core.Path.{◌≡◌, refl, ap, sym, ◌∙◌}
+use mathlib.Core.Path.{◌≡◌, ap, ◌∙◌}
 use mathlib.Core.List.{List}
-use Prim.Native.Nat.{ℕ, ◌+◌, ◌-◌}
+use Prim.Native.Nat.{ℕ, ◌+◌, ◌<◌, ◌≤◌}
 use native.Mathlib.Omega.{arith}
-use lib.ListN.{take, drop}
+use lib.ListN.{length, take, drop}
 use Rattle.keccak.specs.Permutation.{last_rounds}
 use Rattle.sponge.specs.Cut.{puts}
 use Rattle.sponge.specs.Published.{xor_byte}
 use Rattle.sponge.specs.Model.{absorb_bytes}
-use Rattle.sponge.proofs.Blocks.{absorb_part, absorb_done}
+use Rattle.sponge.proofs.Blocks.{absorb_part}
 use Rattle.sponge.proofs.absorb_blocks.Goals as goal
 
-pub loop-i-init : goal.loop-i-init
-loop-i-init c = (omega arith, omega arith, refl)
-
-pub next_position-at-requires : goal.next_position-at-requires
-next_position-at-requires c = (omega arith, omega arith)
-
-pub least-k-requires : goal.least-k-requires
-least-k-requires c = tt
-
-pub loop-i-preserved : goal.loop-i-preserved
-loop-i-preserved c =
+pub loop-rest-preserved : goal.loop-rest-preserved
+loop-rest-preserved c =
     let a = c.args in
     let r = c.next_position-at in
-    let k = c.least-k.result in
-    let e : c.loop-i.i + k - c.loop-i.i ≡ k = omega arith in (
+    let l = c.loop-rest in
+    let k : ℕ = c.min.result in
+    let s : List ℕ = l.rest.now in
+    let some : 0 < length s = omega arith in
+    let room : r.result + k ≤ a.rate = omega arith in
+    let within : 0 + k ≤ length s = omega arith in
+    let n : length c.split_at.result.0.now ≡ k = c.split_at.ensures.front_len in
+    let e : k ≡ 0 + k = omega arith in (
       omega arith,
-      omega arith,
-      ap (λ (m : List ℕ). absorb_bytes (last_rounds a.rounds) a.rate (record { value = m; position = r.result + k }) (drop (c.loop-i.i + k) a.piece.now)) c.xor_part.ensures
-          ∙ ap (λ (n : ℕ). absorb_bytes (last_rounds a.rounds) a.rate (record { value = puts xor_byte r.new.lanes r.result (take n (drop c.loop-i.i a.piece.now)); position = r.result + k }) (drop (c.loop-i.i + k) a.piece.now)) e
-          ∙ absorb_part (last_rounds a.rounds) a.rate (record { value = c.loop-i.lanes; position = c.loop-i.p }) r.new.lanes r.result r.ensures.result_after r.ensures.upper_bound a.piece.now c.loop-i.i k (omega arith) (omega arith) (omega arith)
-          ∙ c.loop-i.invariant.2,
+      ap (λ (m : List ℕ). absorb_bytes (last_rounds a.rounds) a.rate (record { value = m; position = r.result + length c.split_at.result.0.now }) c.split_at.result.1.now) c.xor_part.ensures
+          ∙ ap (λ (t : List ℕ). absorb_bytes (last_rounds a.rounds) a.rate (record { value = puts xor_byte r.new.lanes r.result t; position = r.result + length c.split_at.result.0.now }) c.split_at.result.1.now) c.split_at.ensures.front
+          ∙ ap (λ (x : ℕ). absorb_bytes (last_rounds a.rounds) a.rate (record { value = puts xor_byte r.new.lanes r.result (take k s); position = r.result + x }) c.split_at.result.1.now) n
+          ∙ ap (λ (t : List ℕ). absorb_bytes (last_rounds a.rounds) a.rate (record { value = puts xor_byte r.new.lanes r.result (take k s); position = r.result + k }) t) (c.split_at.ensures.back ∙ ap (λ (x : ℕ). drop x s) e)
+          ∙ absorb_part (last_rounds a.rounds) a.rate (record { value = l.lanes; position = l.p }) r.new.lanes r.result r.ensures.result_after r.ensures.upper_bound s 0 k some room within
+          ∙ l.invariant.1,
     )
-
-pub returns : goal.returns
-returns c =
-    let a = c.args in
-    sym (absorb_done (last_rounds a.rounds) a.rate (record { value = c.loop-i.lanes; position = c.loop-i.p }) a.piece.now c.loop-i.i c.loop-i-test.false) ∙ c.loop-i.invariant.2

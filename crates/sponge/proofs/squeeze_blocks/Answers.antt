@@ -18,9 +18,6 @@ loop-i-init c = (omega arith, refl, omega arith, refl, refl)
 pub next_position-at-requires : goal.next_position-at-requires
 next_position-at-requires c = (omega arith, omega arith)
 
-pub least-k-requires : goal.least-k-requires
-least-k-requires c = tt
-
 pub loop-i-preserved : goal.loop-i-preserved
 loop-i-preserved c =
     let first : (Sponge) = (record { value = c.args.lanes.now; position = c.args.position }) in
@@ -28,7 +25,7 @@ loop-i-preserved c =
     let rounds = c.args.rounds in
     let i = c.loop-i.i in
     let q = c.next_position-at in
-    let k = c.least-k.result in
+    let k = c.min-k.result in
     let r = c.read_part in
     let s : Sponge = record { value = c.loop-i.lanes; position = c.loop-i.p } in
     let g : 0 < k = omega arith in

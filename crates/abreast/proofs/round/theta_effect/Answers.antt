@@ -46,4 +46,13 @@ effect_words j s =
     (state-parity j s 3 (12 + j) refl) (state-parity j s 4 (16 + j) refl)
 
 pub returns : goal.returns
-returns c = effect_words _ _
+returns c =
+    (λ i.
+    record {
+      0 = bit_xor (column c.args.j c.args.a.now 4 (16 + c.args.j)) (c.rotate_left.ensures i);
+      1 = bit_xor (column c.args.j c.args.a.now 0 c.args.j) (c.rotate_left-2.ensures i);
+      2 = bit_xor (column c.args.j c.args.a.now 1 (4 + c.args.j)) (c.rotate_left-3.ensures i);
+      3 = bit_xor (column c.args.j c.args.a.now 2 (8 + c.args.j)) (c.rotate_left-4.ensures i);
+      4 = bit_xor (column c.args.j c.args.a.now 3 (12 + c.args.j)) (c.rotate_left-5.ensures i);
+    })
+    ∙ effect_words _ _

@@ -15,4 +15,4 @@ pub returns-in-Err : goal.returns-in-Err
 returns-in-Err c =
     let a = c.args in
     let e = c.in-Err.ensures.refused in
-    ap (λ (m : Moved). answered m a.lanes.now) c.refused.ensures ∙ answer-refused (function_of a.numbers) (run_with a.lanes.now a.at) (absorb a.piece.now) c.in-Err.number e.1 e.0
+    ap (λ (m : Moved). answered m a.lanes.now) c.refused.ensures ∙ answer-refused (function_of a.numbers) (run_with a.lanes.now a.at) (absorb a.piece.now) c.in-Err.refusal.status e.1 e.0

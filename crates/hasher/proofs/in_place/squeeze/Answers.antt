@@ -18,6 +18,6 @@ pub returns-in-Err : goal.returns-in-Err
 returns-in-Err c =
     let a = c.args in
     let e = c.in-Err.ensures.refused in record {
-      lanes_after = ap (λ (m : Moved). answered m a.lanes.now) c.refused.ensures ∙ answer-refused (function_of a.numbers) (run_with a.lanes.now a.at) (squeeze (length a.out.now)) c.in-Err.number e.1 e.0;
-      out_after = output-refused (function_of a.numbers) (run_with a.lanes.now a.at) a.out.now c.in-Err.number e.1 e.0;
+      lanes_after = ap (λ (m : Moved). answered m a.lanes.now) c.refused.ensures ∙ answer-refused (function_of a.numbers) (run_with a.lanes.now a.at) (squeeze (length a.out.now)) c.in-Err.refusal.status e.1 e.0;
+      out_after = output-refused (function_of a.numbers) (run_with a.lanes.now a.at) a.out.now c.in-Err.refusal.status e.1 e.0;
     }

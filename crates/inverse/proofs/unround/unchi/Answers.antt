@@ -8,7 +8,7 @@ use Rattle.inverse.proofs.Filling.{none_filled, one_filled, all_filled}
 use Rattle.inverse.proofs.unround.unchi.Goals as goal
 
 pub loop-i-init : goal.loop-i-init
-loop-i-init c = (omega arith, none_filled _ _ (array_state c.args.a c.well_formed.0).lanes)
+loop-i-init c = none_filled _ _ (array_state c.args.a c.well_formed.0).lanes
 
 pub unchi_lane-requires : goal.unchi_lane-requires
 unchi_lane-requires c = (omega arith, omega arith)
@@ -17,10 +17,10 @@ pub loop-i-preserved : goal.loop-i-preserved
 loop-i-preserved c =
     let at = c.loop-i in
     let within : at.i < 25 = omega arith in
-    (omega arith, one_filled _ at.i _ at.b within c.unchi_lane.ensures at.invariant.1)
+    one_filled _ at.i _ at.b within c.unchi_lane.ensures at.invariant
 
 pub returns : goal.returns
 unfolding unchi
 returns c =
     let at = c.loop-i in
-    all_filled _ at.i at.b (λ h. omega arith) at.invariant.1
+    all_filled _ at.i at.b (λ h. omega arith) at.invariant

@@ -12,7 +12,7 @@ use Rattle.inverse.proofs.Filling.{none_filled, one_filled, all_filled}
 use Rattle.inverse.proofs.unround.untheta.Goals as goal
 
 pub loop-i-init : goal.loop-i-init
-loop-i-init c = (omega arith, none_filled _ _ (array_state c.args.a c.well_formed.0).lanes)
+loop-i-init c = none_filled _ _ (array_state c.args.a c.well_formed.0).lanes
 
 pub untheta_lane-requires : goal.untheta_lane-requires
 untheta_lane-requires c = (omega arith, omega arith)
@@ -21,11 +21,11 @@ pub loop-i-preserved : goal.loop-i-preserved
 loop-i-preserved c =
     let at = c.loop-i in
     let within : at.i < 25 = omega arith in
-    (omega arith, one_filled _ at.i _ at.b within c.untheta_lane.ensures at.invariant.1)
+    one_filled _ at.i _ at.b within c.untheta_lane.ensures at.invariant
 
 pub returns : goal.returns
 unfolding untheta
 returns c =
     let at = c.loop-i in
     let parities-are = c.untheta_parities-p.ensures ∙ ap untheta_parities c.parities-c.ensures in
-    all_filled _ at.i at.b (λ h. omega arith) at.invariant.1 ∙ ap (λ (p : List ℕ). grid (λ x y. bit_xor (lane c.args.a x y) (effect p x))) parities-are
+    all_filled _ at.i at.b (λ h. omega arith) at.invariant ∙ ap (λ (p : List ℕ). grid (λ x y. bit_xor (lane c.args.a x y) (effect p x))) parities-are

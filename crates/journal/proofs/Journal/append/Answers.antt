@@ -7,7 +7,7 @@ use lib.ListN.{length}
 use Rattle.sponge.specs.Status.{first_of}
 use Rattle.sponge.specs.Transcript.{Call.absorb}
 use Rattle.kangarootwelve.specs.Model as kt
-use Rattle.kangarootwelve.proofs.Encoding.{encoding_start, encoding_length, encoding_part}
+use Rattle.kangarootwelve.proofs.Encoding.{encoding_slice}
 use Rattle.journal.specs.Published.{framed}
 use Rattle.journal.specs.Transcript.{event_limit}
 use Rattle.journal.specs.Inside.{as_day}
@@ -21,23 +21,6 @@ returns-then-event-gt-EVENT_LIMIT c =
     let empty : c.refuse_event.result ≡ record { journal = record { run = a.self.run }; status = first_of (kt.answer_of 168 32 a.self.run (absorb [])).status 8 } = c.refuse_event.ensures in
     empty ∙ long_answer a.self.run a.event.now (omega (arith, c.if-event-gt-EVENT_LIMIT.true))
 
-pub slice_bounds-absorb_both-count : goal.slice_bounds-absorb_both-count
-slice_bounds-absorb_both-count c =
-    let n = c.length_encode-encoding in
-    let start : n.result.start ≤ 9 = encoding_start _ n.result n.ensures in
-    search rules
-
-pub slice_bounds-absorb_both-start : goal.slice_bounds-absorb_both-start
-slice_bounds-absorb_both-start c =
-    let n = c.length_encode-encoding in
-    let start : n.result.start ≤ 9 = encoding_start _ n.result n.ensures in
-    search rules
-
-pub slice_bounds-absorb_both-end : goal.slice_bounds-absorb_both-end
-slice_bounds-absorb_both-end c =
-    let n = c.length_encode-encoding in
-    le_of_eq (sym (encoding_length _ n.result n.ensures (omega (arith, c.if-event-gt-EVENT_LIMIT.false))))
-
 pub returns : goal.returns
 unfolding framed
 returns c =
@@ -45,5 +28,5 @@ returns c =
     let n = c.length_encode-encoding in
     let fits : length a.event.now ≤ event_limit = omega (arith, c.if-event-gt-EVENT_LIMIT.false) in
     c.absorb_both.ensures
-    ∙ ap (λ (l : List ℕ). as_day (kt.answer_of 168 32 a.self.run (absorb (a.event.now ++ l)))) (encoding_part (length a.event.now) n.result n.ensures (omega (arith, fits)))
+    ∙ ap (λ (l : List ℕ). as_day (kt.answer_of 168 32 a.self.run (absorb (a.event.now ++ l)))) (encoding_slice (length a.event.now) n.result n.ensures c.as_slice.result.now c.as_slice.ensures)
     ∙ short_answer a.self.run a.event.now fits

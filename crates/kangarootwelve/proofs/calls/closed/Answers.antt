@@ -4,10 +4,10 @@ use native.Mathlib.Omega.{arith}
 use Rattle.kangarootwelve.proofs.calls.closed.Goals as goal
 
 pub overflow_add-total : goal.overflow_add-total
-overflow_add-total c = omega (arith, c.requires.2, c.requires.3)
+overflow_add-total c = omega (arith, c.requires.0, c.requires.1)
 
 pub closed_kt-requires : goal.closed_kt-requires
-closed_kt-requires c = (c.requires.0, c.requires.1, omega (arith, c.requires.2, c.requires.3), c.requires.3, c.requires.4)
+closed_kt-requires c = (omega (arith, c.requires.0, c.requires.1), c.requires.1, c.requires.2)
 
 pub returns : goal.returns
 returns c =

@@ -21,54 +21,48 @@ returns-then-not-is_open c =
     let a = c.args in
     let r : Run = run_with a.node.now a.leaf.now a.at in
     ap (λ (m : Moved). answered m a.node.now a.leaf.now) c.refused.ensures
-    ∙ not_open_is a.rate a.chaining r finish c.status_if_not_open.result c.status_if_not_open.ensures
+    ∙ not_open_is a.strength.rate a.strength.chaining r finish c.status_if_not_open.result c.status_if_not_open.ensures
     (sym c.is_open.ensures ∙ c.if-not-is_open.true)
-    (λ t h. finish_3 (rules a.rate a.chaining) (machine a.rate a.chaining) (seen r) (passes a.rate a.chaining r true t) (λ z. omega (arith, h, z)))
+    (λ t h. finish_3 (rules a.strength.rate a.strength.chaining) (machine a.strength.rate a.strength.chaining) (seen r) (passes a.strength.rate a.strength.chaining r true t) (λ z. omega (arith, h, z)))
 
 pub returns-then-at-ne-CUSTOMIZING : goal.returns-then-at-ne-CUSTOMIZING
 returns-then-at-ne-CUSTOMIZING c =
-    let was : ((c.args.at.phase ≡ 1 → ⊥) × (reached_at c.args.rate c.args.chaining c.args.at ≡ true)) = (open_passed c.args.at.phase _ (sym c.is_open.ensures ∙ c.if-not-is_open.false)) in
+    let was : ((c.args.at.phase ≡ 1 → ⊥) × (reached_at c.args.strength.rate c.args.strength.chaining c.args.at ≡ true)) = (open_passed c.args.at.phase _ (sym c.is_open.ensures ∙ c.if-not-is_open.false)) in
     let a = c.args in
     let r : Run = run_with a.node.now a.leaf.now a.at in
-    let e = finish_3 (rules a.rate a.chaining) (machine a.rate a.chaining) (seen r) (passes a.rate a.chaining r true (was).1) c.if-at-ne-CUSTOMIZING.true in
-    ap (λ (m : Moved). answered m a.node.now a.leaf.now) c.refused-then-at-ne-CUSTOMIZING.ensures ∙ refused_is a.rate a.chaining r finish 2 e
+    let e = finish_3 (rules a.strength.rate a.strength.chaining) (machine a.strength.rate a.strength.chaining) (seen r) (passes a.strength.rate a.strength.chaining r true (was).1) c.if-at-ne-CUSTOMIZING.true in
+    ap (λ (m : Moved). answered m a.node.now a.leaf.now) c.refused-then-at-ne-CUSTOMIZING.ensures ∙ refused_is a.strength.rate a.strength.chaining r finish 2 e
 
 pub place-requires : goal.place-requires
 place-requires c =
-    let was : ((c.args.at.phase ≡ 1 → ⊥) × (reached_at c.args.rate c.args.chaining c.args.at ≡ true)) = (open_passed c.args.at.phase _ (sym c.is_open.ensures ∙ c.if-not-is_open.false)) in
-    let passed : (let a = c.args in Passed a.rate a.chaining (run_with a.node.now a.leaf.now a.at)) = (fits c.args.rate c.args.chaining (run_with c.args.node.now c.args.leaf.now c.args.at) c.requires.0 (was).1) in
+    let was : ((c.args.at.phase ≡ 1 → ⊥) × (reached_at c.args.strength.rate c.args.strength.chaining c.args.at ≡ true)) = (open_passed c.args.at.phase _ (sym c.is_open.ensures ∙ c.if-not-is_open.false)) in
+    let passed : (let a = c.args in Passed a.strength.rate a.strength.chaining (run_with a.node.now a.leaf.now a.at)) = (fits c.args.strength.rate c.args.strength.chaining (run_with c.args.node.now c.args.leaf.now c.args.at) c.args.strength.bounds.0 (was).1) in
     let h = passed in omega (arith, h.absorbed-fits, h.customized-fits)
 
 pub finish-requires : goal.finish-requires
 finish-requires c =
-    let was : ((c.args.at.phase ≡ 1 → ⊥) × (reached_at c.args.rate c.args.chaining c.args.at ≡ true)) = (open_passed c.args.at.phase _ (sym c.is_open.ensures ∙ c.if-not-is_open.false)) in
-    let passed : (let a = c.args in Passed a.rate a.chaining (run_with a.node.now a.leaf.now a.at)) = (fits c.args.rate c.args.chaining (run_with c.args.node.now c.args.leaf.now c.args.at) c.requires.0 (was).1) in
+    let was : ((c.args.at.phase ≡ 1 → ⊥) × (reached_at c.args.strength.rate c.args.strength.chaining c.args.at ≡ true)) = (open_passed c.args.at.phase _ (sym c.is_open.ensures ∙ c.if-not-is_open.false)) in
+    let passed : (let a = c.args in Passed a.strength.rate a.strength.chaining (run_with a.node.now a.leaf.now a.at)) = (fits c.args.strength.rate c.args.strength.chaining (run_with c.args.node.now c.args.leaf.now c.args.at) c.args.strength.bounds.0 (was).1) in
     let h = passed in
     let at = c.place in
-    let few : at.result.index ≤ c.args.at.absorbed + c.args.at.customized = rw at.ensures (place-index c.args.rate c.args.chaining c.args.node.now c.args.leaf.now c.args.at) in (
-      c.requires.0,
-      c.requires.1,
-      c.requires.2,
-      subst (λ (p : Place). Fits c.args.rate (tree_of c.args.node.now c.args.leaf.now p)) (sym at.ensures) (place-fits c.args.rate c.args.chaining c.args.node.now c.args.leaf.now c.args.at h.node_fits h.leaf-fits),
-      omega (arith, few, h.absorbed-fits, h.customized-fits),
-    )
+    let few : at.result.index ≤ c.args.at.absorbed + c.args.at.customized = rw at.ensures (place-index c.args.strength.rate c.args.strength.chaining c.args.node.now c.args.leaf.now c.args.at) in (subst (λ (p : Place). Fits c.args.strength.rate (tree_of c.args.node.now c.args.leaf.now p)) (sym at.ensures) (place-fits c.args.strength.rate c.args.strength.chaining c.args.node.now c.args.leaf.now c.args.at h.node_fits h.leaf-fits), omega (arith, few, h.absorbed-fits, h.customized-fits))
 
 pub closed-requires : goal.closed-requires
 closed-requires c =
-    let was : ((c.args.at.phase ≡ 1 → ⊥) × (reached_at c.args.rate c.args.chaining c.args.at ≡ true)) = (open_passed c.args.at.phase _ (sym c.is_open.ensures ∙ c.if-not-is_open.false)) in
-    let passed : (let a = c.args in Passed a.rate a.chaining (run_with a.node.now a.leaf.now a.at)) = (fits c.args.rate c.args.chaining (run_with c.args.node.now c.args.leaf.now c.args.at) c.requires.0 (was).1) in
+    let was : ((c.args.at.phase ≡ 1 → ⊥) × (reached_at c.args.strength.rate c.args.strength.chaining c.args.at ≡ true)) = (open_passed c.args.at.phase _ (sym c.is_open.ensures ∙ c.if-not-is_open.false)) in
+    let passed : (let a = c.args in Passed a.strength.rate a.strength.chaining (run_with a.node.now a.leaf.now a.at)) = (fits c.args.strength.rate c.args.strength.chaining (run_with c.args.node.now c.args.leaf.now c.args.at) c.args.strength.bounds.0 (was).1) in
     let h = passed in
-    (c.requires.0, c.requires.2, h.absorbed-fits, omega (arith, h.customized-fits), h.squeezed-fits)
+    (h.absorbed-fits, omega (arith, h.customized-fits), h.squeezed-fits)
 
 pub returns : goal.returns
 unfolding rules
 returns c =
-    let was : ((c.args.at.phase ≡ 1 → ⊥) × (reached_at c.args.rate c.args.chaining c.args.at ≡ true)) = (open_passed c.args.at.phase _ (sym c.is_open.ensures ∙ c.if-not-is_open.false)) in
+    let was : ((c.args.at.phase ≡ 1 → ⊥) × (reached_at c.args.strength.rate c.args.strength.chaining c.args.at ≡ true)) = (open_passed c.args.at.phase _ (sym c.is_open.ensures ∙ c.if-not-is_open.false)) in
     let a = c.args in
     let r : Run = run_with a.node.now a.leaf.now a.at in
     let w = (was).1 in
     let f = c.finish in
-    let e = finish_0 (rules a.rate a.chaining) (machine a.rate a.chaining) (seen r) (passes a.rate a.chaining r true w) customization_limit (λ c. c) refl c.if-at-ne-CUSTOMIZING.false in
+    let e = finish_0 (rules a.strength.rate a.strength.chaining) (machine a.strength.rate a.strength.chaining) (seen r) (passes a.strength.rate a.strength.chaining r true w) customization_limit (λ c. c) refl c.if-at-ne-CUSTOMIZING.false in
     ap (λ (p : Progress). answered (record { at = p; status = 0 }) f.new.node (replicate 25 0)) c.closed.ensures
-    ∙ finish-answer a.rate a.chaining a.node.now a.leaf.now a.at c.requires.0 w f.new.node
-    (f.ensures ∙ ap (λ (p : Place). finish_tree a.rate a.chaining (tree_of a.node.now a.leaf.now p) a.at.customized) c.place.ensures) e
+    ∙ finish-answer a.strength.rate a.strength.chaining a.node.now a.leaf.now a.at c.args.strength.bounds.0 w f.new.node
+    (f.ensures ∙ ap (λ (p : Place). finish_tree a.strength.rate a.strength.chaining (tree_of a.node.now a.leaf.now p) a.at.customized) c.place.ensures) e

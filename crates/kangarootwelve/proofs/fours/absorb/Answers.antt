@@ -14,12 +14,12 @@ use Rattle.kangarootwelve.proofs.FourLeaves.{rest_is, rest_length, lead_row, end
 use Rattle.kangarootwelve.proofs.fours.absorb.Goals as goal
 
 pub overflow_sub-lead : goal.overflow_sub-lead
-overflow_sub-lead c = omega (arith, c.requires.rate_nonzero.3.position-fits, chunk_is)
+overflow_sub-lead c = omega (arith, c.requires.place_fits.0.position-fits, chunk_is)
 
 pub returns-then-piece-lead : goal.returns-then-piece-lead
 returns-then-piece-lead c =
     let e = c.absorb.ensures in record {
-      fits = (e.fits, c.requires.rate_value.3);
+      fits = (e.fits, c.requires.states_cleared);
       index_bound = omega (arith, e.index_bound);
       result_after = e.result_after;
     }
@@ -33,14 +33,14 @@ pub absorb-full-requires : goal.absorb-full-requires
 absorb-full-requires c =
     let a = c.args in
     let n = length-take-le (8192 - a.at.position) a.piece.now (omega (arith, c.if-piece-lead.false)) in
-    (c.requires.rate_nonzero.0, c.requires.rate_nonzero.1, c.requires.rate_nonzero.2, c.requires.rate_nonzero.3, omega (arith, n, c.if-piece-lead.false, c.requires.rate_nonzero.4))
+    (c.requires.place_fits.0, omega (arith, n, c.if-piece-lead.false, c.requires.place_fits.1))
 
 pub end_chunk-next-requires : goal.end_chunk-next-requires
 end_chunk-next-requires c =
     let a = c.args in
     let e = c.absorb-full.ensures in
     let n = length-take-le (8192 - a.at.position) a.piece.now (omega (arith, c.if-piece-lead.false)) in
-    (c.requires.rate_nonzero.0, c.requires.rate_nonzero.1, c.requires.rate_nonzero.2, e.fits, omega (arith, e.index_bound, n, c.if-piece-lead.false, c.requires.rate_nonzero.4))
+    (e.fits, omega (arith, e.index_bound, n, c.if-piece-lead.false, c.requires.place_fits.1))
 
 pub absorb_leaves-requires : goal.absorb_leaves-requires
 absorb_leaves-requires c =
@@ -51,21 +51,12 @@ absorb_leaves-requires c =
     let lead : ℕ = 8192 - a.at.position in
     let u : At Tree = tree_of f.new.node f.new.leaf f.result in
     let w : At Tree = tree_of e.new.node e.new.leaf e.result in
-    let fits : Fits a.rate w = subst (Fits a.rate) (sym e.ensures) (end_fits a.rate c.requires.rate_nonzero.0 a.chaining u f.ensures.fits) in
+    let fits : Fits a.strength.rate w = subst (Fits a.strength.rate) (sym e.ensures) (end_fits a.strength.rate c.args.strength.bounds.0 a.strength.chaining u f.ensures.fits) in
     let index : e.result.index ≡ suc f.result.index = ap (λ (x : At Tree). x.value.index) e.ensures in
     let n = length-take-le lead a.piece.now (omega (arith, t)) in
     let k = rest_length lead a.piece.now in record {
-      rate_nonzero = (c.requires.rate_nonzero.0, c.requires.rate_nonzero.1, c.requires.rate_value.0, c.requires.rate_nonzero.2, c.requires.rate_value.1, c.requires.rate_value.2, value-length a.chaining c.requires.rate_nonzero.2);
-      node_le_rate = (
-        fits.final-fits,
-        ap (λ (x : At Tree). x.value.leaf.position) e.ensures,
-        omega (arith, index),
-        ap (λ (x : At Tree). x.position) e.ensures,
-        omega (arith, index, f.ensures.index_bound, n, k, t, c.requires.rate_nonzero.4),
-        ended_leaf a.rate a.chaining c.requires.rate_nonzero.0 c.requires.rate_nonzero.1 u.value w e.ensures,
-        c.requires.rate_value.3,
-        omega (arith, k, t),
-      );
+      value_len = value-length a.strength.chaining c.args.strength.bounds.4;
+      leaf_begins = (fits.final-fits, ap (λ (x : At Tree). x.value.leaf.position) e.ensures, omega (arith, index), ap (λ (x : At Tree). x.position) e.ensures, omega (arith, index, f.ensures.index_bound, n, k, t, c.requires.place_fits.1), ended_leaf a.strength.rate a.strength.chaining c.args.strength.bounds.0 c.args.strength.bounds.1 u.value w e.ensures, c.requires.states_cleared, omega (arith, k, t));
     }
 
 pub returns : goal.returns
@@ -84,6 +75,6 @@ returns c =
     let k = rest_length lead p in record {
       fits = l.ensures.fits;
       index_bound = omega (arith, l.ensures.index_bound, index, f.ensures.index_bound, n, k, t);
-      result_after = l.ensures.result_after ∙ ap (absorb_tree a.rate a.chaining w) (rest_is lead p)
-          ∙ lead_row a.rate a.chaining c.requires.rate_nonzero.0 c.requires.rate_nonzero.1 (tree_of a.node.now a.leaf.now a.at) u w lead p (omega (arith, c.requires.rate_nonzero.3.position-fits, chunk_is)) (omega (arith, t)) f.ensures.result_after e.ensures;
+      result_after = l.ensures.result_after ∙ ap (absorb_tree a.strength.rate a.strength.chaining w) (rest_is lead p)
+          ∙ lead_row a.strength.rate a.strength.chaining c.args.strength.bounds.0 c.args.strength.bounds.1 (tree_of a.node.now a.leaf.now a.at) u w lead p (omega (arith, c.requires.place_fits.0.position-fits, chunk_is)) (omega (arith, t)) f.ensures.result_after e.ensures;
     }

@@ -10,8 +10,8 @@ xor_block-first-requires c = tt
 pub loop-i-init : goal.loop-i-init
 loop-i-init c =
     let s = c.args.states.now in
-    let b = block_each s c.xor_block-first.new.states c.args.chunks.now 0 c.args.rate c.requires.states_len.0 c.requires.states_len.1 c.requires.rate_nonzero.1 c.requires.rate_nonzero.2 (omega arith) c.xor_block-first.ensures.states_after in
-    (omega arith, c.requires.rate_nonzero.2, omega arith, λ h. refl, record { words = b.words; each = λ k h. refl })
+    let b = block_each s c.xor_block-first.new.states c.args.chunks.now 0 c.args.strength.rate c.requires.0 c.requires.1 c.args.strength.bounds.1 c.args.strength.bounds.2 (omega arith) c.xor_block-first.ensures.states_after in
+    (omega arith, c.args.strength.bounds.2, omega arith, λ h. refl, record { words = b.words; each = λ k h. refl })
 
 pub permute_in_place-full-requires : goal.permute_in_place-full-requires
 permute_in_place-full-requires c = tt
@@ -21,9 +21,9 @@ xor_block-next-requires c = tt
 
 pub loop-i-preserved : goal.loop-i-preserved
 loop-i-preserved c =
-    let rate = c.args.rate in
+    let rate = c.args.strength.rate in
     let i = c.loop-i.i in
-    let n = c.least-p.result in
+    let n = c.min-p.result in
     let hi : i < 8192 = c.loop-i-test.true in
     let hn : n ≤ rate = omega arith in
     let whole : n % 8 ≡ 0 = omega arith in
@@ -32,18 +32,18 @@ loop-i-preserved c =
       omega arith,
       hn,
       λ h. omega arith,
-      left_more rate c.requires.rate_nonzero.0 c.requires.rate_nonzero.1 c.args.chunks.now c.requires.states_len.1 _ c.loop-i.states c.permute_in_place-full.new.states c.xor_block-next.new.states c.loop-i.p i n
+      left_more rate c.args.strength.bounds.0 c.args.strength.bounds.1 c.args.chunks.now c.requires.1 _ c.loop-i.states c.permute_in_place-full.new.states c.xor_block-next.new.states c.loop-i.p i n
           (c.loop-i.invariant.3 hi) hi hn whole fits c.permute_in_place-full.ensures.states_after c.xor_block-next.ensures.states_after c.loop-i.invariant.4,
     )
 
 pub shape_of-states : goal.shape_of-states
 shape_of-states c =
-    c.loop-i.invariant.4.words ∙ sym c.requires.states_len.0
+    c.loop-i.invariant.4.words ∙ sym c.requires.0
 
 pub returns : goal.returns
 returns c =
     record {
       upper_bound = c.loop-i.invariant.2;
-      sponges = left_all c.args.rate c.requires.rate_nonzero.0 c.requires.rate_nonzero.1 c.args.chunks.now c.requires.states_len.1 c.args.states.now c.xor_block-first.new.states c.loop-i.states c.loop-i.p c.loop-i.i
-          c.requires.states_len.0 c.requires.rate_nonzero.2 c.xor_block-first.ensures.states_after c.loop-i-test.false c.loop-i.invariant.4;
+      sponges = left_all c.args.strength.rate c.args.strength.bounds.0 c.args.strength.bounds.1 c.args.chunks.now c.requires.1 c.args.states.now c.xor_block-first.new.states c.loop-i.states c.loop-i.p c.loop-i.i
+          c.requires.0 c.args.strength.bounds.2 c.xor_block-first.ensures.states_after c.loop-i-test.false c.loop-i.invariant.4;
     }

@@ -9,10 +9,7 @@ use Rattle.kangarootwelve.proofs.leaves.absorb_open.Goals as goal
 
 pub absorb_chunks-at-requires : goal.absorb_chunks-at-requires
 absorb_chunks-at-requires c =
-    record {
-      states_len = (ap length c.requires.chunks_len.1 ∙ cleared-length, c.requires.chunks_len.0);
-      rate_nonzero = (c.requires.rate_nonzero.0, c.requires.rate_nonzero.1, c.requires.rate_nonzero.2);
-    }
+    (ap length c.requires.chunks_len.1 ∙ cleared-length, c.requires.chunks_len.0)
 
 -- the open leaf is sought first: a version that takes another state out is refused for it
 pub returns : goal.returns
@@ -22,6 +19,6 @@ returns c =
       leaf_after = search (rules, open_leaf);
       node_le_rate = (c.close-valued.ensures.states_after.1, c.absorb_chunks-at.ensures.upper_bound, c.close-valued.ensures.states_after.0);
       node_after = c.close-valued.ensures.result_after
-          ∙ ap (absorb_bytes permuted a.rate (record { value = a.node.now; position = a.position }))
-          (first_values a.rate a.chunks.now a.states.now _ c.absorb_chunks-at.result c.requires.chunks_len.1 c.absorb_chunks-at.ensures.sponges (length a.value.now) c.requires.rate_nonzero.0 3 (omega arith));
+          ∙ ap (absorb_bytes permuted a.strength.rate (record { value = a.node.now; position = a.position }))
+          (first_values a.strength.rate a.chunks.now a.states.now _ c.absorb_chunks-at.result c.requires.chunks_len.1 c.absorb_chunks-at.ensures.sponges (length a.value.now) c.args.strength.bounds.0 3 (omega arith));
     }

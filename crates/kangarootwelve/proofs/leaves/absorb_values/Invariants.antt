@@ -8,9 +8,6 @@ use Rattle.kangarootwelve.proofs.leaves.absorb_values.Given as goal
 
 abbrev pub invariant-loop-j : goal.invariant-loop-j
 invariant-loop-j l =
-    (l.j ≤ l.count) × (l.p ≤ l.rate) × (length l.value ≡ length l.initial.value)
-    × (absorb_bytes permuted l.rate (record { value = l.node; position = l.p }) (states_bytes (length l.initial.value) l.states (l.count - l.j) l.j)
-    ≡ absorb_bytes permuted l.rate (record { value = l.initial.node; position = l.position }) (states_bytes (length l.initial.value) l.states l.count 0))
-
-abbrev pub decreases-loop-j : goal.decreases-loop-j
-decreases-loop-j l = l.count - l.j
+    (l.p ≤ l.strength.rate) × (length l.value ≡ length l.initial.value)
+    × (absorb_bytes permuted l.strength.rate (record { value = l.node; position = l.p }) (states_bytes (length l.initial.value) l.states (l.count - l.j) l.j)
+    ≡ absorb_bytes permuted l.strength.rate (record { value = l.initial.node; position = l.position }) (states_bytes (length l.initial.value) l.states l.count 0))

@@ -16,6 +16,6 @@ returns c = record {
   );
   result_after = let a = c.args in
       c.absorb_values-valued.ensures.result_after
-      ∙ ap (absorb_bytes permuted a.rate (record { value = a.node.now; position = a.position }))
-      (open_values_lem a.rate (length a.value.now) c.requires.rate_nonzero.0 c.requires.value_len_bound.0 a.states.now _ a.at c.pad.ensures a.count 0 (omega arith));
+      ∙ ap (absorb_bytes permuted a.strength.rate (record { value = a.node.now; position = a.position }))
+      (open_values_lem a.strength.rate (length a.value.now) c.args.strength.bounds.0 c.requires.value_len_bound.0 a.states.now _ a.at c.pad.ensures a.count 0 (omega arith));
 }

@@ -8,8 +8,8 @@ use Rattle.sponge.proofs.Blocks.{ready_full, ready_other}
 use Rattle.kangarootwelve.proofs.Abreast.{twelve_each}
 use Rattle.kangarootwelve.proofs.leaves.next_position.Goals as goal
 
-pub returns-then-position-rate : goal.returns-then-position-rate
-returns-then-position-rate c =
+pub returns-then-position-strength : goal.returns-then-position-strength
+returns-then-position-strength c =
     let a = c.args in
     let p = twelve_each a.states.now c.permute_in_place-full.new.states c.requires.0 c.permute_in_place-full.ensures.states_after in record {
       upper_bound = omega arith;
@@ -18,14 +18,14 @@ returns-then-position-rate c =
         each =
             λ k g.
             ap (λ (m : List ℕ). record { value = m; position = 0 }) (p.each k g)
-            ∙ ready_full permuted a.rate (state_at k a.states.now) a.position c.if-position-rate.true;
+            ∙ ready_full permuted a.strength.rate (state_at k a.states.now) a.position c.if-position-strength.true;
       };
     }
 
 pub returns : goal.returns
 returns c =
     let a = c.args in
-    let h : a.position < a.rate = omega (arith, c.if-position-rate.false) in record {
+    let h : a.position < a.strength.rate = omega (arith, c.if-position-strength.false) in record {
       upper_bound = h;
-      sponges = record { words = c.requires.0; each = λ k g. ready_other permuted a.rate (state_at k a.states.now) a.position h };
+      sponges = record { words = c.requires.0; each = λ k g. ready_other permuted a.strength.rate (state_at k a.states.now) a.position h };
     }

@@ -1,10 +1,6 @@
-use Prim.Native.Nat.{◌≤◌, ◌-◌}
 use Rattle.abreast.proofs.Four.{Upto}
 use Rattle.sponge.specs.Published.{xor_byte}
 use Rattle.kangarootwelve.proofs.leaves.xor_bytes.Given as goal
 
 abbrev pub invariant-loop-j : goal.invariant-loop-j
-invariant-loop-j l = (l.j ≤ 4) × Upto l.j (λ _ lanes. xor_byte lanes l.at l.b) l.initial.states l.states
-
-abbrev pub decreases-loop-j : goal.decreases-loop-j
-decreases-loop-j l = 4 - l.j
+invariant-loop-j l = Upto l.j (λ _ lanes. xor_byte lanes l.at l.b) l.initial.states l.states

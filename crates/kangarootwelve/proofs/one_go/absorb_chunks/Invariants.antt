@@ -8,9 +8,6 @@ use Rattle.kangarootwelve.proofs.one_go.absorb_chunks.Given as goal
 
 abbrev pub invariant-loop-i : goal.invariant-loop-i
 invariant-loop-i l =
-    (l.i ≤ l.count) × (l.p ≤ l.rate)
-    × (ended_chunks l.rate l.chaining (l.count - l.i) (record { final = record { value = l.node; position = l.p }; leaf = fresh; index = l.i }) (drop (l.i * chunk) l.message)
-    ≡ ended_chunks l.rate l.chaining l.count (record { final = record { value = l.initial.node; position = 0 }; leaf = fresh; index = 0 }) l.message)
-
-abbrev pub decreases-loop-i : goal.decreases-loop-i
-decreases-loop-i l = l.count - l.i
+    (l.p ≤ l.strength.rate)
+    × (ended_chunks l.strength.rate l.strength.chaining (l.count - l.i) (record { final = record { value = l.node; position = l.p }; leaf = fresh; index = l.i }) (drop (l.i * chunk) l.message)
+    ≡ ended_chunks l.strength.rate l.strength.chaining l.count (record { final = record { value = l.initial.node; position = 0 }; leaf = fresh; index = 0 }) l.message)

@@ -14,7 +14,7 @@ returns-then-refusal-ne-DONE c =
     let a = c.args in
     let s = c.hash_status-refusal in record {
       value = s.ensures;
-      out_after = hash-refused a.rate a.chaining a.message.now a.customization.now a.out.now (λ e. c.if-refusal-ne-DONE.true (s.ensures ∙ e));
+      out_after = hash-refused a.strength.rate a.strength.chaining a.message.now a.customization.now a.out.now (λ e. c.if-refusal-ne-DONE.true (s.ensures ∙ e));
     }
 
 pub finalize-requires : goal.finalize-requires
@@ -22,7 +22,7 @@ finalize-requires c =
     let m = c.absorb-last in
     let part = rest_length (length c.args.message.now / 8192) c.args.message.now in
     let few = hash-fits (length c.args.message.now) (length c.args.customization.now) (length c.args.out.now) (sym c.hash_status-refusal.ensures ∙ c.if-refusal-ne-DONE.false) in
-    (c.requires.0, c.requires.1, c.requires.3, m.ensures.fits, omega (arith, m.ensures.index_bound))
+    (m.ensures.fits, omega (arith, m.ensures.index_bound))
 
 pub returns : goal.returns
 returns c =
@@ -31,14 +31,14 @@ returns c =
     let rest = c.absorb-last in
     let s = c.squeeze-squeezed in
     let n = length a.message.now / 8192 in
-    let row = hash_row a.rate c.requires.0 c.requires.1 a.chaining a.message.now a.customization.now a.out.now c.finalize.new.node n
+    let row = hash_row a.strength.rate c.args.strength.bounds.0 c.args.strength.bounds.1 a.strength.chaining a.message.now a.customization.now a.out.now c.finalize.new.node n
     (tree_of rest.new.node rest.new.leaf rest.result) (record { status = s.result.status; state = record { value = s.new.lanes; position = s.result.position } }) s.new.out (rw chunk_is (omega arith))
     (rest.ensures.result_after
-    ∙ ap (λ (t : At Tree). absorb_tree a.rate a.chaining t (take (length a.message.now - n * 8192) (drop (n * 8192) a.message.now)))
-    (chunks_left a.rate c.requires.0 c.requires.1 a.chaining chunks.new.node chunks.result n a.message.now chunks.ensures.count_after)
-    ∙ ap (absorb_tree a.rate a.chaining (record { value = ended_chunks a.rate a.chaining n fresh_tree a.message.now; position = 0 })) (part_rest n a.message.now))
+    ∙ ap (λ (t : At Tree). absorb_tree a.strength.rate a.strength.chaining t (take (length a.message.now - n * 8192) (drop (n * 8192) a.message.now)))
+    (chunks_left a.strength.rate c.args.strength.bounds.0 c.args.strength.bounds.1 a.strength.chaining chunks.new.node chunks.result n a.message.now chunks.ensures.count_after)
+    ∙ ap (absorb_tree a.strength.rate a.strength.chaining (record { value = ended_chunks a.strength.rate a.strength.chaining n fresh_tree a.message.now; position = 0 })) (part_rest n a.message.now))
     c.finalize.ensures s.ensures.position_after s.ensures.out_after in
     let zero_is = sym c.hash_status-refusal.ensures ∙ c.if-refusal-ne-DONE.false in record {
       value = row.0 ∙ sym zero_is;
-      out_after = row.1 ∙ hash-written a.rate a.chaining a.message.now a.customization.now a.out.now zero_is;
+      out_after = row.1 ∙ hash-written a.strength.rate a.strength.chaining a.message.now a.customization.now a.out.now zero_is;
     }

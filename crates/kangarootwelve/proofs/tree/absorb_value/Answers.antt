@@ -6,8 +6,8 @@ pub returns : goal.returns
 returns c =
     let pads = c.pad-padded in
     let squeezes = c.squeeze-squeezed in
-    value_row c.args.rate c.requires.0 c.requires.1 (record { value = c.args.leaf.now; position = c.args.reached }) (record { value = c.args.node.now; position = c.args.position })
+    value_row c.args.strength.rate c.args.strength.bounds.0 c.args.strength.bounds.1 (record { value = c.args.leaf.now; position = c.args.reached }) (record { value = c.args.node.now; position = c.args.position })
     intermediate_domain c.args.value.now squeezes.new.out
     (record { status = pads.result.status; state = record { value = pads.new.lanes; position = pads.result.position } })
     (record { status = c.absorb-absorbed.result.status; state = record { value = c.absorb-absorbed.new.lanes; position = c.absorb-absorbed.result.position } })
-    c.requires.3 c.requires.2 pads.ensures squeezes.ensures.out_after c.absorb-absorbed.ensures
+    c.requires.1 c.requires.0 pads.ensures squeezes.ensures.out_after c.absorb-absorbed.ensures

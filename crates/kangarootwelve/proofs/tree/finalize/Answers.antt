@@ -7,4 +7,4 @@ use Rattle.kangarootwelve.proofs.tree.finalize.Goals as goal
 pub returns : goal.returns
 returns c =
     let a = c.args in
-    c.finish.ensures ∙ ap (λ (u : At Tree). finish_tree a.rate a.chaining u (length a.customization.now)) c.absorb-named.ensures.result_after
+    c.finish.ensures ∙ ap (λ (u : At Tree). finish_tree a.strength.rate a.strength.chaining u (length a.customization.now)) c.absorb-named.ensures.result_after

@@ -1,30 +1,9 @@
-use mathlib.Core.Path.{refl}
+use mathlib.Core.Path.{◌∙◌}
 use native.Mathlib.Omega.{arith}
-use lib.ListN.{length-set}
-use Rattle.sponge.specs.Words.{with_word}
+use Rattle.sponge.proofs.Output.{with_word_parts}
 use Rattle.sponge.proofs.block.put_word.Goals as goal
 
-pub bounds-out-i-2 : goal.bounds-out-i-2
-bounds-out-i-2 c = simp length-set (omega arith)
-
-pub bounds-out-i-3 : goal.bounds-out-i-3
-bounds-out-i-3 c = simp length-set (omega arith)
-
-pub bounds-out-i-4 : goal.bounds-out-i-4
-bounds-out-i-4 c = simp length-set (omega arith)
-
-pub bounds-out-i-5 : goal.bounds-out-i-5
-bounds-out-i-5 c = simp length-set (omega arith)
-
-pub bounds-out-i-6 : goal.bounds-out-i-6
-bounds-out-i-6 c = simp length-set (omega arith)
-
-pub bounds-out-i-7 : goal.bounds-out-i-7
-bounds-out-i-7 c = simp length-set (omega arith)
-
-pub bounds-out-i-8 : goal.bounds-out-i-8
-bounds-out-i-8 c = simp length-set (omega arith)
-
 pub returns : goal.returns
-unfolding with_word
-returns c = refl
+returns c =
+    let a = c.args in
+    with_word_parts a.out.now c.copy_from_slice.new.self a.i _ a.w c.requires (omega arith) (c.copy_from_slice.ensures.after ∙ c.to_le_bytes.ensures)

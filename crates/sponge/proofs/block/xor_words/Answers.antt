@@ -1,30 +1,20 @@
-use mathlib.Core.Path.{refl, ap, sym, ◌∙◌}
-use Prim.Native.Nat.{ℕ, ◌+◌, ◌*◌}
+use mathlib.Core.Path.{◌≡◌, ap, ◌∙◌}
+use Prim.Native.Nat.{ℕ, ◌+◌, ◌*◌, ◌≤◌}
 use native.Mathlib.Omega.{arith}
-use lib.ListN.{drop}
+use lib.ListN.{length}
 use Rattle.sponge.specs.Cut.{puts}
 use Rattle.sponge.specs.Published.{xor_byte}
-use Rattle.sponge.proofs.Words.{word-step, xor_lane, rest_part, puts_done}
+use Rattle.sponge.proofs.Words.{word_turn}
 use Rattle.sponge.proofs.block.xor_words.Goals as goal
 
-pub loop-i-init : goal.loop-i-init
-loop-i-init c = (omega arith, omega arith, refl)
+pub loop-q-init : goal.loop-q-init
+loop-q-init c =
+    let e : 8 * (c.args.first + 0) ≡ 8 * c.args.first = omega arith in
+    ap (λ (p : ℕ). puts xor_byte c.args.lanes.now p c.args.s.now) e
 
-pub loop-i-preserved : goal.loop-i-preserved
-loop-i-preserved c =
-    let a = c.args in (
-      omega arith,
-      omega arith,
-      ap (λ (w : ℕ). puts xor_byte (xor_lane c.loop-i.lanes c.loop-i.q w) (8 * (c.loop-i.q + 1)) (drop (c.loop-i.i + 8) a.s.now)) c.word_at.ensures
-          ∙ sym (word-step c.loop-i.lanes a.s.now c.loop-i.q c.loop-i.i (omega arith) (λ j. omega (arith, c.shared_slice_known-1.given j)))
-          ∙ c.loop-i.invariant.2,
-    )
-
-pub returns-then-i-s : goal.returns-then-i-s
-returns-then-i-s c =
+pub loop-q-preserved : goal.loop-q-preserved
+loop-q-preserved c =
     let a = c.args in
-    c.xor_bytes.ensures ∙ ap (puts xor_byte c.loop-i.lanes (8 * c.loop-i.q)) (rest_part a.s.now c.loop-i.i) ∙ c.loop-i.invariant.2
-
-pub returns-else-i-s : goal.returns-else-i-s
-returns-else-i-s c =
-    sym (puts_done c.loop-i.lanes c.args.s.now (8 * c.loop-i.q) c.loop-i.i c.if-i-s.false) ∙ c.loop-i.invariant.2
+    let q = c.loop-q.q in
+    let room : 8 * q + 8 ≤ length a.s.now = omega arith in
+    word_turn c.loop-q.lanes a.s.now a.first q c.word_at.result room (λ j. omega (arith, c.shared_slice_known-1.given j)) c.word_at.ensures ∙ c.loop-q.invariant
