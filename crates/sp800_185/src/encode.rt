@@ -17,6 +17,7 @@ fn byte_count(x: u64) -> usize
 }
 
 // Absorbs left_encode(x).
+// Kept: the bounds of the rate, here and below: the rate stands alone, and the position changes at each call.
 pub(crate) fn absorb_left(lanes: &mut [u64; 25], position: usize, rate: usize, x: u64) -> usize
     requires { (0 < rate) × (rate ≤ 200) × (position ≤ rate) }
     ensures result_after { record { value = lanes.new; position = result } ≡ absorb_bytes (last_rounds 24) rate (record { value = lanes.old; position = position }) (left_encode x) }
