@@ -1,60 +1,117 @@
--- What the code of the encodings asks: the bytes come off a number at its low end, and go into the array from its end; their number goes before them.
+-- The bytes of a number of 64 bits, as the code has them: how many there are, by the zeros above the number, and that they are the last of its eight.
 -- Assumes nothing.
-use mathlib.Core.Path.{◌≡◌, refl, sym, ap, ◌∙◌}
+use mathlib.Core.Path.{◌≡◌, refl, sym, ap, ◌∙◌, subst}
 use mathlib.Core.List.{List, [], ◌∷◌, ◌++◌}
-use Prim.Native.Nat.{ℕ, zero, suc, ◌+◌, ◌-◌, ◌/◌, ◌%◌, ◌^◌, ◌≤◌, ◌<◌}
-use native.Mathlib.Nat.{zero-lt-suc, le_refl}
-use native.Mathlib.Numerals.{add-one}
+use Prim.Native.Nat.{ℕ, zero, suc, ◌+◌, ◌-◌, ◌*◌, ◌/◌, ◌%◌, ◌^◌, ◌≤◌, ◌<◌, zero-le}
+use native.Mathlib.Nat.{zero-lt-suc, le_refl, le_trans, pow-suc, pow-succ', pow-le-pow_right, div-div-eq-div-mul}
 use native.Mathlib.Omega.{arith}
-use lib.ListN.{length, take, drop, set, length-append, length-drop, length-set}
-use lib.Seq.{length-take-le, take_all}
+use lib.Count.{count_leading_zeros}
+use lib.ListN.{length, take, drop, length-drop}
+use lib.Seq.{take_all}
+use Rattle.std.specs.Int.{byte_at, bytes_high_first}
+use Rattle.std.proofs.lemmas.Nat.{leading_top, pow-add, le-div}
 use Rattle.sponge.specs.Digits.{digits}
-use Rattle.sponge.proofs.Digits.{digits_last, drop-set, number_behind}
+use Rattle.sponge.proofs.Digits.{digits_last, digits_short, count_last}
 use Rattle.sp800_185.specs.Published.{one_at_least, bytes_of, left_encode, right_encode}
-use Rattle.sp800_185.proofs.Blocks.{right_is, left_most}
+use Rattle.sp800_185.proofs.Blocks.{left_most}
 
 one_some : (s : List ℕ) (b : ℕ) → one_at_least (s ++ b ∷ []) ≡ s ++ b ∷ []
 one_some [] b = refl
 one_some (c ∷ s) b = refl
 
-bytes_last : (x : ℕ) → digits (x / 256) (x / 256) ++ x % 256 ∷ [] ≡ bytes_of x
-bytes_last zero = refl
-bytes_last (suc x) =
-    sym (one_some (digits (suc x / 256) (suc x / 256)) (suc x % 256)) ∙ ap one_at_least (sym (digits_last (suc x) (zero-lt-suc x)))
+bytes_some : (x : ℕ) → 0 < x → bytes_of x ≡ digits x x
+bytes_some x h = ap one_at_least (digits_last x h) ∙ one_some (digits (x / 256) (x / 256)) (x % 256) ∙ sym (digits_last x h)
 
--- the first byte written is the last, and there is always one
-pub first_put : (x : ℕ) (s : List ℕ) → length s ≡ 10 → digits (x / 256) (x / 256) ++ take (9 - 8) (drop 8 (set s 8 (x % 256))) ≡ bytes_of x
-first_put x s l = rw (drop-set s 8 (x % 256) (omega arith)) (bytes_last x)
+-- ---- how many there are
 
--- the bytes, and before them their number
-pub left_part : (x i : ℕ) (s : List ℕ) → 1 ≤ i → i ≤ 8 → length s ≡ 10 → take (9 - i) (drop i s) ≡ bytes_of x → take (9 - (i - 1)) (drop (i - 1) (set s (i - 1) (9 - i))) ≡ left_encode x
-unfolding left_encode
-left_part x zero s h g l e = absurd (omega arith)
-left_part x (suc j) s h g l e =
-    let j' : suc j - 1 ≡ j = omega arith in
-    let k : 9 - j ≡ suc (9 - suc j) = omega arith in
-    let n : length (bytes_of x) ≡ 9 - suc j = ap length (sym e) ∙ length-take-le (9 - suc j) (drop (suc j) s) (rw (length-drop (suc j) s, l) (omega arith)) in
-    rw (j', k, drop-set s j (9 - suc j) (omega arith), n) (ap (λ (t : List ℕ). (9 - suc j) ∷ t) e)
+-- a number of 256 ^ k and more has more than k bytes
+digits_long : (k x : ℕ) → 256 ^ k ≤ x → k < length (digits x x)
+digits_long zero x h =
+    let some : 0 < x = omega arith in
+    omega (arith, count_last x some)
+digits_long (suc k) x h =
+    let l : 256 ^ k * 256 ≤ x = subst (λ (n : ℕ). n ≤ x) (pow-suc 256 k) h in
+    let one : 256 ^ zero ≤ 256 ^ k = pow-le-pow_right (omega arith) zero-le in
+    let some : 0 < x = omega arith in
+    omega (arith, count_last x some, digits_long k (x / 256) (le-div (256 ^ k) x 256 (omega arith) l))
 
--- the bytes, and behind them their number
-pub right_part : (x i : ℕ) (s : List ℕ) → 1 ≤ i → i ≤ 8 → length s ≡ 10 → take (9 - i) (drop i s) ≡ bytes_of x → take (10 - i) (drop i (set s 9 (9 - i))) ≡ right_encode x
-unfolding right_encode
-right_part x i s h g l e =
-    take_all (10 - i) (drop i (set s 9 (9 - i))) (rw (length-drop i (set s 9 (9 - i)), length-set s 9 (9 - i), l) (le_refl (10 - i)))
-    ∙ number_behind 9 i s (bytes_of x) (omega arith) l e
+in_bits : (k : ℕ) → 256 ^ k ≡ 2 ^ (8 * k)
+in_bits zero = refl
+in_bits (suc k) =
+    let e : 8 * suc k ≡ 8 * k + 8 = omega arith in
+    pow-suc 256 k ∙ ap (λ (n : ℕ). n * 256) (in_bits k) ∙ sym (pow-add 2 (8 * k) 8) ∙ ap (λ (n : ℕ). 2 ^ n) (sym e)
 
--- ---- how many bytes there are
+digits_counted : (x : ℕ) → 0 < x → x < 2 ^ 64 → length (digits x x) ≡ 8 - count_leading_zeros 64 x / 8
+digits_counted x some fits =
+    let t = leading_top 64 x some fits in
+    let j = t.0 in
+    let k : ℕ = j / 8 in
+    let under : 256 ^ k ≤ x = le_trans (subst (λ (n : ℕ). n ≤ 2 ^ j) (sym (in_bits k)) (pow-le-pow_right (omega arith) (omega arith))) t.2 in
+    let wide : 2 ^ suc j ≤ 256 ^ suc k = subst (λ (n : ℕ). 2 ^ suc j ≤ n) (sym (in_bits (suc k))) (pow-le-pow_right (omega arith) (omega arith)) in
+    let over : x < 256 ^ suc k = omega (arith, t.3, wide) in
+    omega (arith, t.1, digits_long k x under, digits_short x x (suc k) over)
 
--- what right_length starts from
-pub right_first : (x : ℕ) → 2 + length (digits (x / 256) (x / 256)) ≡ length (right_encode x)
-unfolding left_encode
-right_first x =
-    let e : length (bytes_of x) ≡ suc (length (digits (x / 256) (x / 256))) = ap length (sym (bytes_last x)) ∙ length-append (digits (x / 256) (x / 256)) (x % 256 ∷ []) ∙ add-one _ in
-    omega (arith, right_is x, e)
+pub counted : (x : ℕ) → (x ≡ 0 → ⊥) → x < 2 ^ 64 → 8 - count_leading_zeros 64 x / 8 ≡ length (bytes_of x)
+counted x h fits = let some : 0 < x = omega (arith, h) in sym (ap length (bytes_some x some) ∙ digits_counted x some fits)
 
--- of a number of 64 bits, at most nine
+-- of a number of 64 bits, at most nine with their number
 pub left_short : (x : ℕ) → x < 2 ^ 64 → length (left_encode x) ≤ 9
 left_short x h = left_most x 8 h (omega arith)
 
-pub right_short : (x : ℕ) → x < 2 ^ 64 → length (right_encode x) ≤ 9
-right_short x h = rw right_is (left_short x h)
+pub bytes_few : (x : ℕ) → x < 2 ^ 64 → (1 ≤ length (bytes_of x)) × (length (bytes_of x) ≤ 8)
+unfolding left_encode
+bytes_few x h = let few = left_short x h in (some x, omega (arith, few))
+  where
+    some : (y : ℕ) → 1 ≤ length (bytes_of y)
+    some zero = omega arith
+    some (suc y) = rw (bytes_some (suc y) (zero-lt-suc y), count_last (suc y) (zero-lt-suc y)) (omega arith)
+
+-- ---- the last of its eight
+
+byte_up : (k x : ℕ) → byte_at (suc k) x ≡ byte_at k (x / 256)
+byte_up zero x = refl
+byte_up (suc k) x = ap (λ (n : ℕ). x / n % 256) (pow-succ' 256 (suc k)) ∙ ap (λ (n : ℕ). n % 256) (sym (div-div-eq-div-mul x 256 (256 ^ suc k)))
+
+high_last : (k x : ℕ) → bytes_high_first (suc k) x ≡ bytes_high_first k (x / 256) ++ x % 256 ∷ []
+high_last zero x = refl
+high_last (suc k) x = λ i. byte_up k x i ∷ high_last k x i
+
+high_digits : (k x : ℕ) → length (digits x x) ≡ k → bytes_high_first k x ≡ digits x x
+high_digits zero zero e = refl
+high_digits zero (suc x) e = absurd (omega (arith, e, count_last (suc x) (zero-lt-suc x)))
+high_digits (suc k) zero e = absurd (omega (arith, e))
+high_digits (suc k) (suc x) e =
+    high_last k (suc x)
+    ∙ ap (λ (s : List ℕ). s ++ suc x % 256 ∷ []) (high_digits k (suc x / 256) (omega (arith, e, count_last (suc x) (zero-lt-suc x))))
+    ∙ sym (digits_last (suc x) (zero-lt-suc x))
+
+high_bytes : (x : ℕ) → bytes_high_first (length (bytes_of x)) x ≡ bytes_of x
+high_bytes zero = refl
+high_bytes (suc x) =
+    let e = bytes_some (suc x) (zero-lt-suc x) in
+    ap (λ (k : ℕ). bytes_high_first k (suc x)) (ap length e) ∙ high_digits (length (digits (suc x) (suc x))) (suc x) refl ∙ sym e
+
+drop_high : (m n k x : ℕ) → k ≡ n + m → drop m (bytes_high_first k x) ≡ bytes_high_first n x
+drop_high zero n k x e = ap (λ (j : ℕ). bytes_high_first j x) (omega (arith, e))
+drop_high (suc m) n zero x e = absurd (omega (arith, e))
+drop_high (suc m) n (suc k) x e = drop_high m n k x (omega (arith, e))
+
+-- as a slice of them
+last_bytes : (x n : ℕ) (s : List ℕ) → n ≡ length (bytes_of x) → n ≤ 8 → s ≡ bytes_high_first 8 x → take (8 - (8 - n)) (drop (8 - n) s) ≡ bytes_of x
+last_bytes x n s e h w =
+    let eight : length s ≡ 8 = ap length w in
+    take_all (8 - (8 - n)) (drop (8 - n) s) (rw (length-drop (8 - n) s, eight) (le_refl (8 - (8 - n))))
+    ∙ ap (drop (8 - n)) w
+    ∙ drop_high (8 - n) n 8 x (omega arith)
+    ∙ ap (λ (k : ℕ). bytes_high_first k x) e
+    ∙ high_bytes x
+
+-- ---- with their number
+
+pub left_bytes : (x n : ℕ) (s : List ℕ) → n ≡ length (bytes_of x) → n ≤ 8 → s ≡ bytes_high_first 8 x → n ∷ take (8 - (8 - n)) (drop (8 - n) s) ≡ left_encode x
+unfolding left_encode
+left_bytes x n s e h w = λ i. e i ∷ last_bytes x n s e h w i
+
+pub right_bytes : (x n : ℕ) (s : List ℕ) → n ≡ length (bytes_of x) → n ≤ 8 → s ≡ bytes_high_first 8 x → take (8 - (8 - n)) (drop (8 - n) s) ++ n ∷ [] ≡ right_encode x
+unfolding right_encode
+right_bytes x n s e h w = λ i. last_bytes x n s e h w i ++ e i ∷ []

@@ -44,6 +44,12 @@ module _ (rate : ℕ) (pos : 0 < rate) (most : rate ≤ 200) where
   pub absorbed : (s : Sponge) (p : List ℕ) (o : Outcome) → s.position ≤ rate → o ≡ absorb_call 24 rate s p → (o.state ≡ absorb_bytes (last_rounds 24) rate s p) × (o.state.position ≤ rate)
   absorbed s p o h e = let is = absorbs s p o h e in (is, subst (λ (t : Sponge). t.position ≤ rate) (sym is) (in_block s p h))
 
+  -- two in a row
+  pub both-absorbed : (s t : Sponge) (x y z : List ℕ) → t ≡ absorb_bytes (last_rounds 24) rate s x → x ++ y ≡ z
+      → absorb_bytes (last_rounds 24) rate t y ≡ absorb_bytes (last_rounds 24) rate s z
+  both-absorbed s t x y z e l =
+      ap (λ (u : Sponge). absorb_bytes (last_rounds 24) rate u y) e ∙ sym (steps-append (last_rounds 24) xor_byte rate s x y) ∙ ap (absorb_bytes (last_rounds 24) rate s) l
+
   -- ---- left_encode, then the string
 
   pub string-absorbed : (s t : Sponge) (x : List ℕ) → t ≡ absorb_bytes (last_rounds 24) rate s (left_encode (8 * length x))

@@ -15,6 +15,7 @@ pub(crate) const ABSORBING: u8 = 0;
 pub(crate) const SQUEEZING: u8 = 1;
 
 // The position after n bytes: a full block is left full.
+// Kept: hasher has the same two functions. They divide by the rate, so they ask that it is not 0, which a public function may not ask.
 fn position_after(rate: usize, n: u64) -> usize
     requires { (0 < rate) × (rate ≤ 200) }
     ensures { result ≡ position_after rate n }

@@ -21,6 +21,7 @@ fn both_empty(name: &[u8], string: &[u8]) -> bool
     false
 }
 
+// Kept: KMAC's differs in the limit and the status of the first string, so that one text for both would take these two as arguments.
 #[tactic(auto, unfolding(crate::specs::Cshake::start_status))]
 fn start_status(name: u64, string: u64) -> u8
     ensures { result ≡ start_status name string }
@@ -65,6 +66,7 @@ pub trait CShake: Copy {
 
     const PREFIX_BLOCKS: u64;
 
+    // Kept: `run` and `from_run`, since a trait reads no field of its type.
     fn run(self) -> Run
         ensures { result ≡ run_of self };
 

@@ -1,40 +1,32 @@
 // The encodings of section 2.3, absorbed where their strings lie.
-ghost use Rattle.std.specs.Prelude.{◌≡◌, ◌-◌, ◌<◌, ◌≤◌, length, take, drop};
+ghost use Rattle.std.specs.Prelude.{◌≡◌, ◌<◌, ◌≤◌, length};
 ghost use Rattle.keccak.specs.Permutation.{last_rounds};
 ghost use Rattle.sponge.specs.Model.{absorb_bytes};
 ghost use Rattle.sp800_185.specs.Published.{bytes_of, left_encode, right_encode, encode_string};
 
 use crate::ROUNDS;
 
-// Writes the bytes of x, most significant first, at least one, before the array's last byte, and answers where they start.
-fn bytes_of(x: u64, bytes: &mut [u8]) -> usize
-    requires { length bytes.old ≡ 10 }
-    ensures lower_bound { (1 ≤ result) × (result ≤ 8) }
-    ensures bytes_len { length bytes.new ≡ 10 }
-    ensures bytes_after { take (9 - result) (drop result bytes.new) ≡ bytes_of x }
+// How many bytes x has: at least one.
+fn byte_count(x: u64) -> usize
+    ensures { (result ≡ length (bytes_of x)) × (1 ≤ result) × (result ≤ 8) }
 {
-    bytes[8] = (x % 256) as u8;
-    let mut rest = x / 256;
-    let mut i = 8;
-    while 0 < rest {
-        i -= 1;
-        bytes[i] = (rest % 256) as u8;
-        rest /= 256;
+    if x == 0 {
+        return 1;
     }
-    i
+    8 - x.leading_zeros() as usize / 8
 }
 
 // Absorbs left_encode(x).
+// Kept: the bounds of the rate, here and below: the rate stands alone, and the position changes at each call.
 pub(crate) fn absorb_left(lanes: &mut [u64; 25], position: usize, rate: usize, x: u64) -> usize
     requires { (0 < rate) × (rate ≤ 200) × (position ≤ rate) }
     ensures result_after { record { value = lanes.new; position = result } ≡ absorb_bytes (last_rounds 24) rate (record { value = lanes.old; position = position }) (left_encode x) }
     ensures upper_bound { result ≤ rate }
 {
-    let mut bytes = [0u8; 10];
-    let from = bytes_of(x, &mut bytes);
-    let at = from - 1;
-    bytes[at] = (9 - from) as u8;
-    let taken = sponge::absorb(lanes, position, rate, ROUNDS, &bytes[at..9]);
+    let count = byte_count(x);
+    let bytes = x.to_be_bytes();
+    let number = sponge::absorb(lanes, position, rate, ROUNDS, &[count as u8]);
+    let taken = sponge::absorb(lanes, number.position, rate, ROUNDS, &bytes[8 - count..]);
     taken.position
 }
 
@@ -57,22 +49,17 @@ pub(crate) fn absorb_right(lanes: &mut [u64; 25], position: usize, rate: usize, 
     ensures result_after { record { value = lanes.new; position = result } ≡ absorb_bytes (last_rounds 24) rate (record { value = lanes.old; position = position }) (right_encode x) }
     ensures upper_bound { result ≤ rate }
 {
-    let mut bytes = [0u8; 10];
-    let from = bytes_of(x, &mut bytes);
-    bytes[9] = (9 - from) as u8;
-    let taken = sponge::absorb(lanes, position, rate, ROUNDS, &bytes[from..10]);
-    taken.position
+    let count = byte_count(x);
+    let bytes = x.to_be_bytes();
+    let taken = sponge::absorb(lanes, position, rate, ROUNDS, &bytes[8 - count..]);
+    let number = sponge::absorb(lanes, taken.position, rate, ROUNDS, &[count as u8]);
+    number.position
 }
 
 // The bytes of right_encode(x). left_encode(x) has as many.
+#[tactic(auto, unfolding(crate::specs::Published::right_encode))]
 pub(crate) fn right_length(x: u64) -> u64
     ensures { result ≡ length (right_encode x) }
 {
-    let mut rest = x / 256;
-    let mut n = 2;
-    while 0 < rest {
-        rest /= 256;
-        n += 1;
-    }
-    n
+    byte_count(x) as u64 + 1
 }

@@ -14,6 +14,7 @@ use crate::{Answer, Keyed, Kmac128, Kmac256, STRING_LIMIT, calls, no_run, prefix
 use hasher::{HasherAnswer, MESSAGE_LIMIT, Run};
 use sponge::status;
 
+// Kept: beside cSHAKE's, see there.
 #[tactic(auto, unfolding(crate::specs::Kmac::start_status))]
 fn start_status(key: u64, string: u64) -> u8
     ensures { result ≡ start_status key string }
@@ -27,6 +28,7 @@ fn start_status(key: u64, string: u64) -> u8
     status::DONE
 }
 
+// Kept: the bounds of the rate, as in `prefix`.
 #[tactic(auto, unfolding(crate::specs::Kmac::start_answer))]
 pub(crate) fn start(rate: usize, key: &[u8], string: &[u8]) -> Answer
     requires { (0 < rate) × (rate ≤ 200) }
@@ -85,6 +87,7 @@ pub trait Kmac: Copy {
 
     const PREFIX_BLOCKS: u64;
 
+    // Kept: `run` and `from_run`, since a trait reads no field of its type.
     fn run(self) -> Run
         ensures { result ≡ run_of self };
 

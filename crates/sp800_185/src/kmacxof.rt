@@ -26,6 +26,7 @@ pub trait KmacXof: Copy {
 
     const PREFIX_BLOCKS: u64;
 
+    // Kept: `run` and `from_run`, since a trait reads no field of its type.
     fn run(self) -> Run
         ensures { result ≡ run_of self };
 

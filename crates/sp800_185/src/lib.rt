@@ -38,6 +38,7 @@ struct Keyed {
 }
 
 // What a call answers: the status, and the run, which is the one given where the status is not 0.
+// Kept: calls refuse by number and hand the run back at once, and the clauses say both in one equation.
 #[derive(Clone, Copy)]
 struct Answer {
     keyed: Keyed,

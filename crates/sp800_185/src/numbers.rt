@@ -25,6 +25,7 @@ impl Numbers {
     ghost use Rattle.sp800_185.specs.Model.{given, plain};
 
     // cSHAKE, of strings that are not both empty: the close says nothing.
+    // Kept: the bounds, here and below, are what `usable` asks; the traits have them as a law.
     pub(crate) fn cshake(rate: usize, most: u64) -> Self
         requires { (0 < rate) × (rate ≤ 200) × (most ≤ 4294967295) }
         ensures { given result ≡ plain (cshake_at rate most) }

@@ -16,6 +16,7 @@ fn encoded_length(n: u64) -> u64
 }
 
 // The blocks of bytepad of n bytes.
+// Kept: the bounds of the rate, here and below: a start takes no other number of its function.
 fn padded_blocks(rate: usize, n: u64) -> u64
     requires { (0 < rate) × (rate ≤ 200) × (n ≤ key_limit + key_limit) }
     ensures { (result ≡ padded_blocks rate n) × (0 < result) × (result ≤ n + 9) }
