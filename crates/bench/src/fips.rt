@@ -1,6 +1,6 @@
 // The exports of FIPS 202's SHA3-256 and SHAKE128.
-ghost use Rattle.sponge.specs.Transcript.{Call};
 ghost use Rattle.std.specs.Prelude.{◌≡◌, length};
+ghost use Rattle.sponge.specs.Transcript.{Call};
 ghost use Rattle.hasher.specs.Model.{answer, fresh_of, one_go_status, one_go_output};
 ghost use Rattle.fips202.specs.Transcript as transcript;
 ghost use Rattle.bench.specs.Pieces.{sha3_256, shake128, pieces_status, pieces_output};

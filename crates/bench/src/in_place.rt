@@ -1,6 +1,6 @@
 // Pieces by the calls on lent lanes.
-ghost use Rattle.sponge.specs.Transcript.{Call};
 ghost use Rattle.std.specs.Prelude.{◌≡◌, length};
+ghost use Rattle.sponge.specs.Transcript.{Call};
 ghost use Rattle.hasher.specs.Model.{answer, fresh_of, run_with};
 ghost use Rattle.turboshake.specs.Transcript.{function};
 ghost use Rattle.fips202.specs.Transcript as transcript;
@@ -13,9 +13,9 @@ use hasher::{Hasher, Progress, Refusal};
 use std::marker::PhantomData;
 use turboshake::{TurboShake, TurboShake128};
 
-// A run of H whose lanes each call borrows: none of them is copied.
+// A run of H whose lanes each call borrows: none of them is copied between the pieces.
 #[derive(Clone, Copy)]
-pub struct Lent<H: Copy> {
+struct Lent<H: Copy> {
     lanes: [u64; 25],
     at: Progress,
     of: PhantomData<H>,

@@ -1,6 +1,6 @@
 // The exports of SP 800-185's cSHAKE128, with N = "N" and S = "S", and KMAC128, with a key of 32 bytes and S = "S".
-ghost use Rattle.sponge.specs.Transcript.{Call};
 ghost use Rattle.std.specs.Prelude.{◌≡◌, true, length};
+ghost use Rattle.sponge.specs.Transcript.{Call};
 ghost use Rattle.sp800_185.specs.Cshake as cshake;
 ghost use Rattle.sp800_185.specs.Function.{kmac_at};
 ghost use Rattle.sp800_185.specs.Kmac as kmac;

@@ -1,6 +1,6 @@
 // KT128's exports.
-ghost use Rattle.sponge.specs.Transcript.{Call};
 ghost use Rattle.std.specs.Prelude.{◌≡◌, [], length};
+ghost use Rattle.sponge.specs.Transcript.{Call};
 ghost use Rattle.kangarootwelve.specs.Model.{answer_of, fresh_of, hash_status, hash_output};
 ghost use Rattle.bench.specs.Pieces.{kt_with_none, pieces_status, pieces_output};
 

@@ -8,8 +8,8 @@ pub mod keyed;
 pub mod kt;
 pub mod pieces;
 
-ghost use Rattle.sponge.specs.Transcript.{Call};
 ghost use Rattle.std.specs.Prelude.{◌≡◌, length};
+ghost use Rattle.sponge.specs.Transcript.{Call};
 ghost use Rattle.hasher.specs.Model.{answer, fresh_of, one_go_status, one_go_output};
 ghost use Rattle.turboshake.specs.Transcript.{function};
 ghost use Rattle.bench.specs.Pieces.{timed_turboshake, pieces_status, pieces_output};

@@ -1,4 +1,4 @@
-// KT128's exports with four leaves abreast. The words that the calls get are a local, so that status and output are the plain call's.
+// KT128's exports with four leaves abreast.
 ghost use Rattle.std.specs.Prelude.{◌≡◌, [], length};
 ghost use Rattle.kangarootwelve.specs.Model.{hash_status, hash_output};
 ghost use Rattle.bench.specs.Pieces.{kt_with_none, pieces_status, pieces_output};

@@ -1,5 +1,5 @@
 // A run of KT of either strength, by the plain calls and by those with four leaves abreast.
-ghost use Rattle.std.specs.Prelude.{◌≡◌, Bool, [], length};
+ghost use Rattle.std.specs.Prelude.{◌≡◌, [], length};
 ghost use Rattle.sponge.specs.Transcript.{Call};
 ghost use Rattle.kangarootwelve.specs.Model.{fresh_of, answer_of, hash_status, hash_output};
 ghost use Rattle.bench.specs.Pieces.{kt_at_with_none};
@@ -8,7 +8,7 @@ use bench::pieces::{TimedRun, accepted};
 use hasher::Refusal;
 use kangarootwelve::Kt;
 
-// A run, fed by the plain calls.
+// A run, fed by the plain calls. Kept: KT128 has such a run in `bench` too, but the edit kt256_pieces_first_byte needs this text in its own crate.
 #[derive(Clone, Copy)]
 pub(crate) struct Plain<K: Kt> {
     hasher: K,
@@ -65,7 +65,7 @@ impl<K: Kt> TimedRun for Abreast<K> {
     }
 }
 
-// In one go, with four leaves abreast.
+// In one go, with four leaves abreast. The words are a local, so that status and output are the plain call's.
 pub(crate) fn hash_abreast<K: Kt>(message: &[u8], out: &mut [u8]) -> u8
     ensures value { result ≡ hash_status (length message.now) 0 (length out.old) }
     ensures out_after { out.new ≡ hash_output K.RATE K.CHAINING message.now [] out.old }
