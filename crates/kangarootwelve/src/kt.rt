@@ -30,6 +30,8 @@ pub trait Kt: Copy {
 
     const RATE: usize;
 
+    ghost CAPACITY: { ℕ };
+
     const CAPACITY: usize;
 
     ghost CHAINING: { ℕ };
@@ -198,6 +200,8 @@ impl Kt for Kt128 {
 
     const RATE: usize = TurboShake128::RATE;
 
+    ghost CAPACITY = { 32 };
+
     const CAPACITY: usize = TurboShake128::CAPACITY;
 
     ghost CHAINING = { 32 };
@@ -205,7 +209,8 @@ impl Kt for Kt128 {
     const CHAINING: usize = TurboShake128::CHAINING;
 
     fn run(self) -> Run {
-        self.run
+        let Kt128 { run } = self;
+        run
     }
 
     fn from_run(run: Run) -> Self {
@@ -222,6 +227,8 @@ impl Kt for Kt256 {
 
     const RATE: usize = TurboShake256::RATE;
 
+    ghost CAPACITY = { 64 };
+
     const CAPACITY: usize = TurboShake256::CAPACITY;
 
     ghost CHAINING = { 64 };
@@ -229,7 +236,8 @@ impl Kt for Kt256 {
     const CHAINING: usize = TurboShake256::CHAINING;
 
     fn run(self) -> Run {
-        self.run
+        let Kt256 { run } = self;
+        run
     }
 
     fn from_run(run: Run) -> Self {
