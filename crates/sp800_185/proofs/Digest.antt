@@ -17,7 +17,7 @@ use Rattle.hasher.specs.declared.Run.{Run}
 use Rattle.sp800_185.specs.Published.{right_encode, encode_string, bytepad, both_empty, cshake_prefix, cshake_byte, cshake_string, cshake, kmac_name, kmac_message, kmac, kmacxof}
 use Rattle.sp800_185.specs.Start.{string_limit, key_limit, kmac_prefix, start_run}
 use Rattle.sp800_185.specs.Function.{Function, cshake_at, whole_status, ending}
-use Rattle.sp800_185.specs.Model.{says, fixes, given, plain, output_after}
+use Rattle.sp800_185.specs.Model.{plain, output_after}
 use Rattle.sp800_185.specs.Cshake as cshake
 use Rattle.sp800_185.specs.Kmac as kmac
 use Rattle.sp800_185.specs.declared.numbers.Numbers.{Numbers}
@@ -150,19 +150,20 @@ module _ (rate : ℕ) (fixes : Bool) (k s x out : List ℕ) (j r : ℕ) (starts 
   pub kmac_few : r ≡ 0 → length out ≤ long_output
   kmac_few e = (within j (length x) (length out) (sym is ∙ e)).few
 
-module _ (f : Numbers) (said : says f.closing ≡ true) (k s x out : List ℕ) (j r : ℕ) (starts : j ≡ kmac.start_status (length k) (length s)) (is : r ≡ whole_status j (length x) (length out)) where
+-- of any function whose close says a length
+module _ (F : Function ℕ) (pos : 0 < F.rate) (said : F.says ≡ true) (k s x out : List ℕ) (j r : ℕ) (starts : j ≡ kmac.start_status (length k) (length s)) (is : r ≡ whole_status j (length x) (length out)) where
   pub kmac-written : r ≡ 0 → (l : ℕ) (q : Run) (o : List ℕ)
-      → l ≡ cond (fixes f.closing) (length out) 0
-      → q ≡ start_run f.rate (kmac_prefix f.rate k s)
-      → o ≡ output_after (given f) (sponge_in q) x l (length out)
-      → o ≡ kmac.one_go_output f.rate (fixes f.closing) k x s out
+      → l ≡ cond F.fixes (length out) 0
+      → q ≡ start_run F.rate (kmac_prefix F.rate k s)
+      → o ≡ output_after F (sponge_in q) x l (length out)
+      → o ≡ kmac.one_go_output F.rate F.fixes k x s out
   unfolding kmac.one_go_output
   kmac-written e l q o el eq eo =
       let n = length out in
-      let p = kmac_prefix f.rate k s in
+      let p = kmac_prefix F.rate k s in
       eo
-      ∙ ap (λ (m : ℕ). output_after (given f) (sponge_in q) x m n) el
-      ∙ start-output (given f) f.usable.0 p x q (cond (fixes f.closing) n 0) n eq
-      ∙ ap (λ (b : Bool). sponge P f.rate (p ++ (x ++ cond b (right_encode (8 * cond (fixes f.closing) n 0)) [])) cshake_byte n) said
-      ∙ kmac-published f.rate k x s (fixes f.closing) n
-      ∙ lent_done _ (sym (kmac-status f.rate (fixes f.closing) k s x out j r starts is) ∙ e) _ out
+      ∙ ap (λ (m : ℕ). output_after F (sponge_in q) x m n) el
+      ∙ start-output F pos p x q (cond F.fixes n 0) n eq
+      ∙ ap (λ (b : Bool). sponge P F.rate (p ++ (x ++ cond b (right_encode (8 * cond F.fixes n 0)) [])) cshake_byte n) said
+      ∙ kmac-published F.rate k x s F.fixes n
+      ∙ lent_done _ (sym (kmac-status F.rate F.fixes k s x out j r starts is) ∙ e) _ out

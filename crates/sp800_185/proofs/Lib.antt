@@ -13,6 +13,7 @@ pub mod Reached
 pub mod Starting
 pub mod Own
 pub mod Instances
+pub mod Bit
 pub mod CshakeRuns
 pub mod CshakeJoins
 pub mod Family

@@ -1,12 +1,12 @@
 -- The statuses of a start and of a call in one go by their cases, and what is within the limits where the status is 0.
 -- Assumes nothing.
-use mathlib.Core.Path.{◌≡◌}
+use mathlib.Core.Path.{◌≡◌, sym}
 use mathlib.Core.Bool.{cond}
-use Prim.Native.Nat.{ℕ, suc, ◌≤◌}
+use Prim.Native.Nat.{ℕ, suc, ◌≤◌, ◌<◌}
 use lib.Dec.{leb}
-use borrow.Author.Tests.{le-leb, leb-true}
+use borrow.Author.Tests.{le-leb, lt-leb, leb-true}
 use Rattle.sponge.specs.Status.{done, input_too_long, first_of}
-use Rattle.sponge.proofs.FirstStatus.{first_zero}
+use Rattle.sponge.proofs.FirstStatus.{first_refused, first_zero}
 use Rattle.sponge.proofs.Streaming.{cond-zero}
 use Rattle.hasher.specs.Function.{message_limit, long_output}
 use Rattle.sp800_185.specs.Function.{length_status, whole_status}
@@ -29,6 +29,15 @@ module _ (a x p b y q : ℕ) where
 -- ---- in one go
 
 module _ (s m l : ℕ) where
+  pub whole_2 : message_limit < m → 2 ≡ whole_status s m l
+  whole_2 h = rw (lt-leb m message_limit h)
+
+  pub whole-start : m ≤ message_limit → (s ≡ 0 → ⊥) → s ≡ whole_status s m l
+  whole-start h g = rw (le-leb m message_limit h) (sym (first_refused s (length_status l) g))
+
+  pub whole_length : m ≤ message_limit → s ≡ 0 → length_status l ≡ whole_status s m l
+  whole_length h e = rw (le-leb m message_limit h, e)
+
   -- within the limits where all is done
   pub record Within : Type 0 where
     pub message : m ≤ message_limit

@@ -3,7 +3,7 @@ use Prim.Native.Nat.{ℕ, ◌≤◌}
 use lib.ListN.{length}
 use Rattle.hasher.specs.Function.{long_output}
 use Rattle.sp800_185.specs.Start.{kmac_prefix}
-use Rattle.sp800_185.specs.Model.{fixes}
+use Rattle.sp800_185.specs.Model.{fixes, given}
 use Rattle.sp800_185.proofs.Digest.{said_few, asked, kmac-status, kmac_untouched, kmac-within, kmac_few, kmac-written}
 use Rattle.sp800_185.proofs.kmac.tag.Goals as goal
 
@@ -49,6 +49,6 @@ returns c =
     let f = a.numbers in record {
       value = d.ensures.value ∙ sym c.if-number-ne-DONE.false
           ∙ kmac-status f.rate (fixes f.closing) a.key.now a.string.now a.message.now a.out.now t.result w.result t.ensures w.ensures;
-      out_after = kmac-written f c.requires a.key.now a.string.now a.message.now a.out.now t.result w.result t.ensures w.ensures
+      out_after = kmac-written (given f) f.usable.0 c.requires a.key.now a.string.now a.message.now a.out.now t.result w.result t.ensures w.ensures
           c.if-number-ne-DONE.false l.result s.result d.new.out l.ensures s.ensures d.ensures.out_after;
     }
