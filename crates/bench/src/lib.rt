@@ -63,8 +63,8 @@ pub fn bench_pieces(message: &[u8], step: usize, out: &mut [u8]) -> u8
 
 // The same in one go.
 pub fn bench_one_go(message: &[u8], out: &mut [u8]) -> u8
-    ensures value { result ≡ one_go_status (function 168) (length message.now) 0x1F (length out.old) }
     ensures out_after { out.new ≡ one_go_output (function 168) message.now 0x1F out.old }
+    ensures value { result ≡ one_go_status (function 168) (length message.now) 0x1F (length out.old) }
 {
     TurboShake128::hash(message, DOMAIN, out)
 }

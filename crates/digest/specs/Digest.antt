@@ -27,6 +27,17 @@ abbrev pub Absorbs : Kt128 → List ℕ → Result Kt128 Failure → Type 0
 Absorbs h p (Ok a) = (answer_of 168 32 h.run (absorb p) ≡ record { status = done; run = a.run }) × Absorbed a.run
 Absorbs h p (Err e) = ((answer_of 168 32 h.run (absorb p)).status ≡ input_too_long) × (e ≡ TooLong)
 
+-- some message left some run, and the run's absorb of some piece is answered 2
+pub record Refused : Type 0 where
+  pub run : Run
+  pub absorbed : Absorbed run
+  pub piece : List ℕ
+  pub refused : (answer_of 168 32 run (absorb piece)).status ≡ input_too_long
+
+-- why the input has no digest: it is called too long only where an absorb was answered 2
+abbrev pub Why : Failure → Type 0
+Why e = e ≡ TooLong → Refused
+
 -- the status and the output of n bytes once the run is finalized with an empty customization string and squeezed: those of the
 -- message that left it
 abbrev pub Digests : Run → ℕ → ℕ → List ℕ → Type 0

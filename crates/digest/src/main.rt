@@ -5,9 +5,9 @@
 
 mod failure;
 
-ghost use Rattle.std.specs.Prelude.{◌≤◌, length, take, IfOk};
+ghost use Rattle.std.specs.Prelude.{◌≤◌, length, take, IfOk, IfErr};
 ghost use Rattle.turboshake.specs.Transcript.{output_limit};
-ghost use Rattle.digest.specs.Digest.{Absorbed, Absorbs, Digests, Written};
+ghost use Rattle.digest.specs.Digest.{Absorbed, Absorbs, Digests, Why, Written};
 
 use failure::{Failure, Reason};
 use kangarootwelve::{Kt, Kt128};
@@ -33,7 +33,8 @@ fn absorb_read(hasher: Kt128, buffer: &[u8], n: usize) -> Result<Kt128, Failure>
 // Absorbs the input to its end. A read that a signal interrupted is asked again. A proved loop has to end, and nothing says that the input does: the turns
 // are a number that no run uses up.
 fn absorb_input(input: &mut impl Read, buffer: &mut [u8]) -> Result<Kt128, Failure>
-    ensures { IfOk result (λ h. Absorbed h.run) }
+    ensures taken { IfOk result (λ h. Absorbed h.run) }
+    ensures refused { IfErr result (λ failure. Why failure) }
 {
     let mut hasher = Kt128::fresh();
     for _ in 0..u64::MAX {
