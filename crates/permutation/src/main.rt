@@ -18,19 +18,11 @@ fn pattern_lane(k: usize) -> u64
     u64::from_le_bytes(array::from_fn(|j| pattern(8 * k + j)))
 }
 
-// Writes a lane and what follows it: a line end after the last of a row, and a space else.
-fn write_lane(rt: &impl Print, v: u64, last: bool) -> io::Result<()> {
-    if last {
-        println!(rt; "{v:016x}")
-    } else {
-        print!(rt; "{v:016x} ")
-    }
-}
-
-// Writes the 25 lanes, and stops at the first write that fails.
+// Writes the 25 lanes, a row to a line, and stops at the first write that fails.
 fn write_state(rt: &impl Print, a: [u64; 25]) -> io::Result<()> {
     for (k, lane) in a.iter().enumerate() {
-        write_lane(rt, *lane, k % 5 == 4)?;
+        let then = if k % 5 == 4 { "\n" } else { " " };
+        print!(rt; "{lane:016x}{then}")?;
     }
     Ok(())
 }

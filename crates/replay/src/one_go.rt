@@ -5,24 +5,44 @@ use crate::by_number::Named;
 use crate::line::Line;
 use crate::payload::Payload;
 use crate::record::{BadRecord, MOST};
-use functions::Closing;
 use functions::kt::KtFunction;
+use functions::{Closing, Function};
 
-// Op T, of a function that has a domain byte, and op B, of one that has none.
-pub fn sponge<'a>(
+// Op T: of a function that has a domain byte.
+pub fn with_domain<'a>(
     mut payload: Payload,
     buffer: &'a mut [u8; MOST],
-    domain: bool,
 ) -> Result<Line<'a>, BadRecord> {
-    let Named::Sponge(function) = Named::try_from(payload.byte()?)? else {
-        return Err(BadRecord);
-    };
-    if matches!(function.closing, Closing::Domain) != domain {
-        return Err(BadRecord);
+    match Named::try_from(payload.byte()?)? {
+        Named::Sponge(function) if matches!(function.closing, Closing::Domain) => {
+            let domain = payload.byte()?;
+            hash(function, domain, payload, buffer)
+        }
+        _ => Err(BadRecord),
     }
-    let last = payload.domain(function)?;
+}
+
+// Op B: of one that has none.
+pub fn without_domain<'a>(
+    mut payload: Payload,
+    buffer: &'a mut [u8; MOST],
+) -> Result<Line<'a>, BadRecord> {
+    match Named::try_from(payload.byte()?)? {
+        Named::Sponge(function) if matches!(function.closing, Closing::Last(_)) => {
+            hash(function, 0, payload, buffer)
+        }
+        _ => Err(BadRecord),
+    }
+}
+
+fn hash<'a>(
+    function: Function,
+    domain: u8,
+    mut payload: Payload,
+    buffer: &'a mut [u8; MOST],
+) -> Result<Line<'a>, BadRecord> {
     let out = payload.output(buffer)?;
-    let status = functions::hash(function, payload.rest(), last, out);
+    let status = functions::hash(function, payload.rest(), domain, out);
     Ok(Line::Output(status, out))
 }
 

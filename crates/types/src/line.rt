@@ -1,8 +1,8 @@
 // The line of a function, and what stands in it.
 ghost use Rattle.std.specs.Prelude.{◌<◌, ◌≤◌, length};
 
+use hexadecimal::DigitsOf;
 use std::io;
-use std::io::ErrorKind;
 
 // The statuses of the calls on a run: a piece, a read before the close, the other piece, the close, a read, a piece after the close, and two
 // reads more, the last of one byte.
@@ -20,32 +20,15 @@ pub fn write_statuses(rt: &impl Print, statuses: &[u8]) -> io::Result<()> {
     Ok(())
 }
 
-// Writes the bytes' digits, and what follows them.
-fn write_part(rt: &impl Print, bytes: &[u8], then: &str) -> io::Result<()>
-    requires { length bytes.now ≤ 65 }
-{
-    let mut text = [0u8; 130];
-    let end = 2 * bytes.len();
-    if !hexadecimal::put(&mut text, 0, bytes) {
-        return Err(io::Error::from(ErrorKind::Other));
-    }
-    rt.write_all(&text[..end])?;
-    print!(rt; "{then}")
-}
-
 // Writes what was read of a run, and a space before its last byte, of which nothing was read.
 pub fn write_read(rt: &impl Print, out: &[u8], then: &str) -> io::Result<()>
-    requires { (0 < length out.now) × (length out.now ≤ 65) }
+    requires { 0 < length out.now }
 {
     let (read, past) = out.split_at(out.len() - 1);
-    write_part(rt, read, " ")?;
-    write_part(rt, past, then)
+    print!(rt; "{} {}{then}", DigitsOf(read), DigitsOf(past))
 }
 
 // Writes the bytes of the two calls in one go, and the line end.
-pub fn write_hashes(rt: &impl Print, one: &[u8], long: &[u8]) -> io::Result<()>
-    requires { (length one.now ≤ 65) × (length long.now ≤ 65) }
-{
-    write_part(rt, one, " ")?;
-    write_part(rt, long, "\n")
+pub fn write_hashes(rt: &impl Print, one: &[u8], long: &[u8]) -> io::Result<()> {
+    println!(rt; "{} {}", DigitsOf(one), DigitsOf(long))
 }
