@@ -4,8 +4,8 @@
     tools/places.py [COMMIT] [--list]     of that commit, or of the files as they stand; --list prints each place
 
 1 `fields`     fields `status: u8` and `: bool`, and variants `Nothing`, of structs and enums; `answers`: functions that answer a status as a u8
-2 `twins`      functions whose texts are one but for digits, names of types and names of functions; `impls`: those of them that are methods of
-               impls of a trait, which each type owes
+2 `twins`      functions whose texts are one but for digits, names of types and names of functions; `impls`: those of them that are methods
+               of traits and of impls of them, which each type owes
 3 `loops`      `while` loops
 4 `conversions` functions of one expression that put the fields of one struct into another, or that write out what std has: the least of two, words
                of bytes, a rotation, a comparison of slices
@@ -59,10 +59,10 @@ def functions(text):
 
 
 def in_impls(text):
-    """The lines of a file that stand in an impl of a trait."""
+    """The lines of a file that stand in a trait or in an impl of one."""
     inside, found = False, set()
     for at, line in enumerate(text.split("\n"), 1):
-        inside = inside and line != "}" or bool(re.match(r"impl\b.* for .*\{$", line))
+        inside = inside and line != "}" or bool(re.match(r"(?:impl\b.* for .*|(?:pub )?trait .*)\{$", line))
         if inside:
             found.add(at)
     return found
@@ -120,7 +120,9 @@ def count(commit):
                     while fact.startswith("(") and fact.endswith(")"):
                         fact = fact[1:-1]
                     facts[crate, fact].append(place)
-            parameters = re.findall(r"(\w+: [^,()]+)", re.sub(r"\s+", " ", head[head.find("(") + 1:head.find(")")]))
+            plain_head = re.sub(r"pub\([a-z]+\) ", "", re.sub(r"\s+", " ", head))
+            start = plain_head.find("(")
+            parameters = re.findall(r"(\w+: [^,()]+)", plain_head[start + 1:plain_head.find(")", start)])
             parameters = [p.strip() for p in parameters if not re.match(r"(out|piece|message|customization|s|a|b|x|y)\b", p)]
             for i in range(len(parameters) - 1):
                 together[crate, f"{parameters[i]}, {parameters[i + 1]}"].append(place)
