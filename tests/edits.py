@@ -1,7 +1,8 @@
 """A must-fail edit: how it is made in a copy of its crate, and how what rt or the prover then says is held to it.
 
 An edit is a wrong version of a crate, in its code (src/) or in a definition (specs/). Its line `# first error: FILE NAME` says which
-declaration of proofs/ the prover must refuse first: an answer for a goal of a function, whether one is written or not, an invariant, or a law.
+declaration of proofs/ the prover must refuse first: an answer for a goal of a function, whether one is written or not, an invariant, or a law; or,
+in a file of src/, the law that an `impl` there must prove, under the law's name and `-value`.
 The place is held here, and the words by which the prover says that a proof no longer fits the code. That the declaration is a fact which the
 edit makes false is for a person to read in the prover's log.
 """
@@ -13,6 +14,8 @@ NO_FACT = ("that can be named from here", "has no field", "is not in scope", "ex
 REFUSED = "refused, as it must be"
 PRINTED = 160  # as many characters of an error does rt print of an edit
 ERROR = re.compile(r"(?:\./)?(\S+?):\d+:\d+: error: `([^`]+)`: .*")
+# A law that an `impl` of a trait must prove, by a term beside it.
+OF_IMPL = re.compile(r"src/\S+\.rt \w+-value")
 # A goal for which no answer is written: where the code owes it, and its name, which rt may have cut.
 GOAL = re.compile(r"note: (?:\./)?(src/\S+?)\.rt:(\d+):\d+: it is not proved that .*?\(`([^`]+)(?:(`\)).*)?")
 # A function, or a constant of an `impl` of a trait, which is proved as one; and what it stands in.
@@ -109,8 +112,8 @@ def named_in(edit):
     named = re.search(r"^# first error: (\S+ \S+)$", edit.read_text(), re.MULTILINE)
     if not named:
         raise Bad("BAD EDIT: it does not say where it must be refused")
-    if not named.group(1).startswith("proofs/"):
-        raise Bad("BAD EDIT: a fact is refused in proofs/, and it names another place")
+    if not named.group(1).startswith("proofs/") and not OF_IMPL.fullmatch(named.group(1)):
+        raise Bad("BAD EDIT: a fact is refused in proofs/, or it is a law of an impl, and it names another place")
     if re.search(r"^file: proofs/", edit.read_text(), re.MULTILINE):
         raise Bad("BAD EDIT: it changes a proof, and not the code or a definition")
     return named.group(1)
