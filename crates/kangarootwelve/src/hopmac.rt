@@ -169,6 +169,13 @@ pub(crate) fn verify(
 pub trait HopMac {
     type Hash: Kt;
 
+    // The numbers of its KT, which the clauses cite, so that another strength's type for `Hash` is refused.
+    ghost RATE: { ℕ };
+
+    ghost CHAINING: { ℕ };
+
+    ghost strength: { (Self.Hash.RATE ≡ RATE) × (Self.Hash.CHAINING ≡ CHAINING) };
+
     ghost INNER: { ℕ };
 
     const INNER: usize;
@@ -179,7 +186,7 @@ pub trait HopMac {
     // The tag of a message and a customization string under the key: as many bytes as `out` holds.
     final fn tag(key: &[u8], message: &[u8], customization: &[u8], out: &mut [u8]) -> u8
         ensures value { result ≡ mac_status (length key.now) (length message.now) (length customization.now) (length out.old) }
-        ensures out_after { out.new ≡ mac_output Self.Hash.RATE Self.Hash.CHAINING INNER key.now message.now customization.now out.old }
+        ensures out_after { out.new ≡ mac_output RATE CHAINING INNER key.now message.now customization.now out.old }
     {
         tag(
             Strength::of::<Self::Hash>(),
@@ -193,7 +200,7 @@ pub trait HopMac {
 
     // Whether the presented tag, of 1 to 64 bytes, is that of the message and the customization string under the key.
     final fn verify(key: &[u8], message: &[u8], customization: &[u8], presented: &[u8]) -> Verdict
-        ensures { result ≡ verdict_of Self.Hash.RATE Self.Hash.CHAINING INNER key.now message.now customization.now presented.now }
+        ensures { result ≡ verdict_of RATE CHAINING INNER key.now message.now customization.now presented.now }
     {
         verify(
             Strength::of::<Self::Hash>(),
@@ -209,6 +216,12 @@ pub trait HopMac {
 impl HopMac for HopMac128 {
     type Hash = Kt128;
 
+    ghost RATE = { 168 };
+
+    ghost CHAINING = { 32 };
+
+    ghost strength = { Prim.search rules };
+
     ghost INNER = { 32 };
 
     const INNER: usize = 32;
@@ -218,6 +231,12 @@ impl HopMac for HopMac128 {
 
 impl HopMac for HopMac256 {
     type Hash = Kt256;
+
+    ghost RATE = { 136 };
+
+    ghost CHAINING = { 64 };
+
+    ghost strength = { Prim.search rules };
 
     ghost INNER = { 64 };
 
