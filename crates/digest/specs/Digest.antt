@@ -1,6 +1,7 @@
 -- What the calls on a run of KT128 come to, whatever is read.
 -- Assumes nothing.
-use Rattle.std.specs.Prelude.{◌≡◌, List, [], ◌∷◌, ◌++◌, ℕ, ◌≤◌, length, Result, Ok, Err}
+use Rattle.std.specs.Prelude.{◌≡◌, List, [], ◌∷◌, ◌++◌, ℕ, ◌≤◌, min, length, Result, Ok, Err}
+use Rattle.std.specs.declared.io.Error.{Error}
 use Rattle.hexadecimal.specs.Hex.{hex_of}
 use Rattle.sponge.specs.Status.{done, input_too_long}
 use Rattle.sponge.specs.Transcript.{Call.absorb}
@@ -11,6 +12,11 @@ use Rattle.kangarootwelve.specs.declared.Run.{Run}
 use Rattle.kangarootwelve.specs.declared.Kt128.{Kt128}
 use Rattle.digest.specs.declared.failure.Failure.{Failure}
 use Rattle.digest.specs.declared.failure.Failure.TheVariants.{TooLong}
+
+-- how many bytes of a buffer of `most` a read has brought: none where it failed
+abbrev pub read_len : Result ℕ Error → ℕ → ℕ
+read_len (Ok n) most = min n most
+read_len (Err e) most = 0
 
 -- r is the run that the message m leaves, absorbed at once
 pub record Left (r : Run) (m : List ℕ) : Type 0 where

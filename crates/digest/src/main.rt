@@ -5,9 +5,9 @@
 
 mod failure;
 
-ghost use Rattle.std.specs.Prelude.{◌≤◌, length, take, IfOk, IfErr};
+ghost use Rattle.std.specs.Prelude.{◌≡◌, ◌≤◌, length, take, IfOk, IfErr};
 ghost use Rattle.turboshake.specs.Transcript.{output_limit};
-ghost use Rattle.digest.specs.Digest.{Absorbed, Absorbs, Digests, Why, Written};
+ghost use Rattle.digest.specs.Digest.{read_len, Absorbed, Absorbs, Digests, Why, Written};
 
 use failure::{Failure, Reason};
 use kangarootwelve::{Kt, Kt128};
@@ -17,12 +17,23 @@ use std::io;
 use std::io::{ErrorKind, Read};
 use std::rt::Env;
 
-// Absorbs the n bytes that a read put at the buffer's start, into a run that a message left.
-fn absorb_read(hasher: Kt128, buffer: &[u8], n: usize) -> Result<Kt128, Failure>
-    requires run { Absorbed hasher.run }
-    requires in_bounds { n ≤ length buffer.now }
-    ensures { Absorbs hasher (take n buffer.now) result }
+// The number of bytes that a read put at the start of a buffer of `most`: none where it came to the end or failed.
+fn count(got: io::Result<usize>, most: usize) -> usize
+    ensures in_bounds { result ≤ most }
+    ensures value { result ≡ read_len got most }
 {
+    match got {
+        Ok(n) => n.min(most),
+        Err(_) => 0,
+    }
+}
+
+// Absorbs the bytes that a read put at the buffer's start, into a run that a message left.
+fn absorb_read(hasher: Kt128, buffer: &[u8], got: io::Result<usize>) -> Result<Kt128, Failure>
+    requires { Absorbed hasher.run }
+    ensures { Absorbs hasher (take (read_len got (length buffer.now)) buffer.now) result }
+{
+    let n = count(got, buffer.len());
     let answer = hasher.absorb(&buffer[..n]);
     if answer.status != DONE {
         return Err(Failure::TooLong);
@@ -38,9 +49,11 @@ fn absorb_input(input: &mut impl Read, buffer: &mut [u8]) -> Result<Kt128, Failu
 {
     let mut hasher = Kt128::fresh();
     for _ in 0..u64::MAX {
-        match input.read(buffer) {
+        let got = input.read(buffer);
+        hasher = absorb_read(hasher, buffer, got)?;
+        match got {
             Ok(0) => return Ok(hasher),
-            Ok(n) => hasher = absorb_read(hasher, buffer, n)?,
+            Ok(_) => {}
             Err(error) if error.kind() == ErrorKind::Interrupted => {}
             Err(error) => return Err(Failure::Read(error)),
         }
