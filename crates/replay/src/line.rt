@@ -1,7 +1,11 @@
 // The lines that are written, one for each record.
+//
+// Runs and outputs are nearly all that is written, so their digits are put together in a text and written at once. Formatted by `Display` each character
+// goes by itself: a run of KT took twice as long, and a long output nine times (docs/LOOK-BACK.md).
+ghost use Rattle.std.specs.Prelude.{◌+◌, ◌*◌, ◌≤◌, length};
+
 use crate::lent::Words;
-use hexadecimal::DigitsOf;
-use std::fmt;
+use std::io;
 
 #[derive(Clone, Copy)]
 pub enum Line<'a> {
@@ -23,100 +27,129 @@ pub enum Line<'a> {
     Kt(kangarootwelve::Run),
 }
 
-// Lanes, with a space before each.
-#[derive(Clone, Copy)]
-struct Lanes([u64; 25]);
+// As many bytes of an output have their digits put together at a time.
+const PART: usize = 16_384;
 
-impl fmt::Display for Lanes {
-    fn fmt<W: fmt::Write>(&self, f: &mut fmt::Formatter<W>) -> fmt::Result {
-        for lane in &self.0 {
-            write!(f, " {lane:016x}")?;
-        }
-        Ok(())
+// The digits of a part, and the character that follows an output.
+pub const TEXT: usize = 2 * PART + 1;
+
+// Puts the bytes' digits, for which there is room.
+fn put_digits(text: &mut [u8], at: usize, bytes: &[u8])
+    requires { at + 2 * length bytes.now ≤ length text.old }
+{
+    let fits = hexadecimal::put(text, at, bytes);
+    prove!(fits);
+}
+
+// Puts numbers of 16 digits, each after a byte that the text has.
+fn put_numbers(text: &mut [u8], at: usize, numbers: &[u64])
+    requires { at + 17 * length numbers.now ≤ length text.old }
+{
+    for (i, number) in numbers.iter().enumerate() {
+        put_digits(text, at + 17 * i + 1, &number.to_be_bytes());
     }
 }
 
-// The phase, the bytes absorbed, the bytes squeezed and the permutations.
-#[derive(Clone, Copy)]
-struct Totals(hasher::Run);
-
-impl fmt::Display for Totals {
-    fn fmt<W: fmt::Write>(&self, f: &mut fmt::Formatter<W>) -> fmt::Result {
-        let hasher::Run {
-            phase,
-            absorbed,
-            squeezed,
-            permutations,
-            ..
-        } = self.0;
-        write!(
-            f,
-            "{phase:02x} {absorbed:016x} {squeezed:016x} {permutations:016x}"
-        )
-    }
-}
-
-// The position and the lanes.
-#[derive(Clone, Copy)]
-struct Place(hasher::Run);
-
-impl fmt::Display for Place {
-    fn fmt<W: fmt::Write>(&self, f: &mut fmt::Formatter<W>) -> fmt::Result {
-        let hasher::Run {
-            position,
-            lanes,
-            ..
-        } = self.0;
-        write!(f, "{position:016x}{}", Lanes(lanes))
-    }
+// The phase, the bytes absorbed, the bytes squeezed and the permutations; what a run of SP 800-185 has of its own, which is its bit or its output length;
+// the position and the lanes.
+fn write_run(rt: &impl Print, run: hasher::Run, own: &[u8]) -> io::Result<()>
+    requires { length own.now ≤ 8 }
+{
+    let hasher::Run {
+        lanes,
+        position,
+        phase,
+        absorbed,
+        squeezed,
+        permutations,
+    } = run;
+    let mut text = [b' '; 513];
+    let place = 53 + own.len().min(1) + 2 * own.len();
+    put_digits(&mut text, 0, &[phase]);
+    put_numbers(&mut text, 2, &[absorbed, squeezed, permutations]);
+    put_digits(&mut text, 54, own);
+    put_numbers(&mut text, place, &[position as u64]);
+    put_numbers(&mut text, place + 17, &lanes);
+    text[place + 442] = b'\n';
+    rt.write_all(&text[..place + 443])
 }
 
 // As of a run of the sponge, but after the bytes squeezed come the customization bytes and the permutations; the positions of the final
 // node and of the leaf, then the lanes of each.
-#[derive(Clone, Copy)]
-struct Tree(kangarootwelve::Run);
-
-impl fmt::Display for Tree {
-    fn fmt<W: fmt::Write>(&self, f: &mut fmt::Formatter<W>) -> fmt::Result {
-        let kangarootwelve::Run {
-            node,
-            leaf,
-            phase,
-            absorbed,
-            customized,
-            squeezed,
-            permutations,
-        } = self.0;
-        write!(
-            f,
-            "{phase:02x} {absorbed:016x} {squeezed:016x} {customized:016x} {permutations:016x}"
-        )?;
-        write!(f, " {:016x} {:016x}", node.position, leaf.position)?;
-        write!(f, "{}{}", Lanes(node.lanes), Lanes(leaf.lanes))
-    }
+fn write_tree(rt: &impl Print, run: kangarootwelve::Run) -> io::Result<()> {
+    let kangarootwelve::Run {
+        node,
+        leaf,
+        phase,
+        absorbed,
+        customized,
+        squeezed,
+        permutations,
+    } = run;
+    let mut text = [b' '; 955];
+    put_digits(&mut text, 0, &[phase]);
+    put_numbers(
+        &mut text,
+        2,
+        &[absorbed, squeezed, customized, permutations],
+    );
+    put_numbers(&mut text, 70, &[node.position as u64, leaf.position as u64]);
+    put_numbers(&mut text, 104, &node.lanes);
+    put_numbers(&mut text, 529, &leaf.lanes);
+    text[954] = b'\n';
+    rt.write_all(&text)
 }
 
-impl fmt::Display for Line<'_> {
-    fn fmt<W: fmt::Write>(&self, f: &mut fmt::Formatter<W>) -> fmt::Result {
-        match *self {
-            Line::Fresh => write!(f, "fresh"),
-            Line::Set => write!(f, "set"),
-            Line::Status(status) => write!(f, "{status}"),
-            Line::Output(status, out) => write!(f, "{status} {}", DigitsOf(out)),
-            Line::Lent(status, words) => write!(f, "{status} {words}"),
-            Line::LentOutput(status, out, words) => write!(f, "{status} {} {words}", DigitsOf(out)),
-            Line::Verdict(status, true) => write!(f, "{status} yes"),
-            Line::Verdict(status, false) => write!(f, "{status} no"),
-            Line::Sponge(run) => write!(f, "{} {}", Totals(run), Place(run)),
-            Line::CShake(run, shake) => write!(
-                f,
-                "{} {:02x} {}",
-                Totals(run),
-                u8::from(shake),
-                Place(run)
-            ),
-            Line::Kmac(run, length) => write!(f, "{} {length:016x} {}", Totals(run), Place(run)),
-            Line::Kt(run) => write!(f, "{}", Tree(run)),
+// The digits of a part of an output.
+fn write_part(rt: &impl Print, part: &[u8], text: &mut [u8; TEXT]) -> io::Result<()>
+    requires { length part.now ≤ 16384 }
+{
+    put_digits(text, 0, part);
+    rt.write_all(&text[..2 * part.len()])
+}
+
+// Those of its last bytes, and the character that follows them.
+fn write_rest(rt: &impl Print, rest: &[u8], last: u8, text: &mut [u8; TEXT]) -> io::Result<()>
+    requires { length rest.now ≤ 16384 }
+{
+    let end = 2 * rest.len();
+    put_digits(text, 0, rest);
+    text[end] = last;
+    rt.write_all(&text[..end + 1])
+}
+
+// The digits of an output, and the character that follows them.
+fn write_ended(rt: &impl Print, out: &[u8], last: u8, text: &mut [u8; TEXT]) -> io::Result<()> {
+    let (parts, rest) = out.split_at(out.len() - out.len() % PART);
+    for part in parts.chunks(PART) {
+        write_part(rt, part, text)?;
+    }
+    write_rest(rt, rest, last, text)
+}
+
+impl Line<'_> {
+    // `text` may hold anything before.
+    pub fn write(self, rt: &impl Print, text: &mut [u8; TEXT]) -> io::Result<()> {
+        match self {
+            Line::Fresh => println!(rt; "fresh"),
+            Line::Set => println!(rt; "set"),
+            Line::Status(status) => println!(rt; "{status}"),
+            Line::Output(status, out) => {
+                print!(rt; "{status} ")?;
+                write_ended(rt, out, b'\n', text)
+            }
+            Line::Lent(status, words) => println!(rt; "{status} {words}"),
+            Line::LentOutput(status, out, words) => {
+                print!(rt; "{status} ")?;
+                write_ended(rt, out, b' ', text)?;
+                println!(rt; "{words}")
+            }
+            Line::Verdict(status, true) => println!(rt; "{status} yes"),
+            Line::Verdict(status, false) => println!(rt; "{status} no"),
+            Line::Sponge(run) => write_run(rt, run, &[]),
+            Line::CShake(run, shake) => write_run(rt, run, &[u8::from(shake)]),
+            Line::Kmac(run, length) => write_run(rt, run, &length.to_be_bytes()),
+            Line::Kt(run) => write_tree(rt, run),
         }
     }
 }

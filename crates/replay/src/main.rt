@@ -61,7 +61,7 @@ mod record;
 mod sponge_run;
 
 use in_hand::InHand;
-use line::Line;
+use line::{Line, TEXT};
 use record::{BadRecord, MOST, Record, Stop};
 use std::io;
 use std::io::Read;
@@ -97,6 +97,7 @@ fn replay(
     input: &mut impl Read,
     payload: &mut [u8; MOST],
     out: &mut [u8; MOST],
+    text: &mut [u8; TEXT],
 ) -> Result<(), Stop> {
     let mut in_hand = None;
     for _ in 0..u64::MAX {
@@ -104,7 +105,7 @@ fn replay(
             break;
         };
         let line = answer(&mut in_hand, record, out)?;
-        println!(rt; "{line}")?;
+        line.write(rt, text)?;
     }
     Ok(())
 }
@@ -112,7 +113,8 @@ fn replay(
 fn main(rt: HostRuntime) -> io::Result<()> {
     let mut payload = [0u8; MOST];
     let mut out = [0u8; MOST];
-    match replay(&rt, &mut rt.reader(), &mut payload, &mut out) {
+    let mut text = [0u8; TEXT];
+    match replay(&rt, &mut rt.reader(), &mut payload, &mut out, &mut text) {
         Err(Stop::Bad(bad)) => println!(rt; "{bad}"),
         Err(Stop::Failed(error)) => Err(error),
         Ok(()) => Ok(()),
