@@ -57,9 +57,10 @@ fn absorb_leaves(
     let mut place = at;
     let mut rest = chunks;
     while FOUR_CHUNKS < rest.len() {
-        let (four, after) = rest.split_at(FOUR_CHUNKS);
+        let (four, _) = rest.split_at(FOUR_CHUNKS);
         let position = leaves::absorb_four(strength, node, place.node, four, states, value);
         place = tree::opened(position, place.index + 4);
+        let (_, after) = rest.split_at(FOUR_CHUNKS);
         rest = after;
     }
     absorb_last(strength, node, leaf, place, rest, states, value)

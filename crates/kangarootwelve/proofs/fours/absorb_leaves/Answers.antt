@@ -33,7 +33,7 @@ loop-rest-preserved c =
     let f = c.absorb_four-position in
     let p = c.loop-rest.place in
     let r = c.loop-rest.rest.now in
-    let back = c.split_at.ensures.back_len in
+    let back = c.split_at-in-loop-rest.ensures.back_len in
     let o = c.opened-place.ensures in
     let index : c.opened-place.result.index ≡ p.index + 4 = ap (λ (q : Place). q.index) o in (
       omega (arith, t, back),
@@ -44,8 +44,8 @@ loop-rest-preserved c =
       ap (λ (q : Place). q.position) o,
       f.ensures.upper_bound.1,
       f.auto.value ∙ c.loop-rest.invariant.7,
-      ap (λ (q : Place). absorb_tree a.strength.rate a.strength.chaining (tree_of f.new.node a.leaf.now q) c.split_at.result.1.now) o
-          ∙ rw c.split_at.ensures.back (closed_row a.strength.rate a.strength.chaining a.strength.bounds.0 a.strength.bounds.1 (record { value = c.loop-rest.node; position = p.node }) (record { value = f.new.node; position = f.result }) a.leaf.now p.leaf p.index
+      ap (λ (q : Place). absorb_tree a.strength.rate a.strength.chaining (tree_of f.new.node a.leaf.now q) c.split_at-in-loop-rest.result.1.now) o
+          ∙ rw c.split_at-in-loop-rest.ensures.back (closed_row a.strength.rate a.strength.chaining a.strength.bounds.0 a.strength.bounds.1 (record { value = c.loop-rest.node; position = p.node }) (record { value = f.new.node; position = f.result }) a.leaf.now p.leaf p.index
           p.position c.loop-rest.value r c.requires.leaf_begins.5 c.loop-rest.invariant.4 c.loop-rest.invariant.2 c.loop-rest.invariant.5 (c.loop-rest.invariant.7 ∙ c.requires.value_len) (omega (arith, t))
           (f.ensures.result_after ∙ ap (λ (m : List ℕ). absorb_bytes permuted a.strength.rate (record { value = c.loop-rest.node; position = p.node }) (values_of a.strength.rate (length c.loop-rest.value) 4 m)) c.split_at.ensures.front))
           ∙ c.loop-rest.invariant.8,
