@@ -8,7 +8,9 @@
 
 ghost use Rattle.std.specs.Prelude.{◌≡◌, ◌≢◌, ◌++◌, ◌+◌, ◌≤◌, length, take, map, sum_by, IfOk, IfErr, OnOk, OnErr};
 ghost use Rattle.sponge.specs.Status.{done};
+ghost use Rattle.sponge.specs.Transcript.{Call};
 ghost use Rattle.journal.specs.Published.{framed, digest};
+ghost use Rattle.journal.specs.Model.{answer_of};
 
 use journal::{Answer, Journal};
 use kangarootwelve::{Kt, Kt128};
@@ -46,13 +48,20 @@ fn taken(answer: Answer) -> Result<Journal, Refused>
     Ok(answer.journal)
 }
 
+// The day with an event appended.
+fn appended(day: Journal, event: &[u8]) -> Result<Journal, Refused>
+    ensures { IfOk result (λ after. answer_of day (Call.absorb event.now) ≡ record { journal = after; status = done }) }
+{
+    taken(day.append(event))
+}
+
 // The shift's part: a call for each event, as it comes. Answers the digest of the events under the name, or the first status that is not 0.
 fn shift<const N: usize>(events: &[&[u8]], name: &[u8]) -> Result<[u8; N], Refused>
     ensures { IfOk result (λ out. out ≡ digest (map (λ event. event.now) events.now) name.now N) }
 {
     let mut day = Journal::fresh();
     for event in events {
-        day = taken(day.append(event))?;
+        day = appended(day, event)?;
     }
     let ended = taken(day.finalize(name))?;
     let mut out = [0u8; N];

@@ -15,7 +15,7 @@ pub loop-event-preserved : goal.loop-event-preserved
 loop-event-preserved g c =
     let l = c.loop-event in
     append_next c.args.events.now l.event-index c.loop-event-test.true l.day (record { journal = c.in_ok-day.day; status = 0 }) l.invariant
-    (sym c.in_ok-day.ensures.ok ∙ c.append.ensures) refl
+    (sym c.in_ok-day.ensures) refl
 
 pub returns : goal.returns
 returns g c =
