@@ -2,7 +2,7 @@
 
 An edit is a wrong version of a crate, in its code (src/) or in a definition (specs/). Its line `# first error: FILE NAME` says which
 declaration of proofs/ the prover must refuse first: an answer for a goal of a function, whether one is written or not, an invariant, or a law; or,
-in a file of src/, the law that an `impl` there must prove, under the law's name and `-value`.
+in a file of src/, the law that an `impl` there must prove by a search, under the law's name and `-value`.
 The place is held here, and the words by which the prover says that a proof no longer fits the code. That the declaration is a fact which the
 edit makes false is for a person to read in the prover's log.
 """
@@ -14,8 +14,9 @@ NO_FACT = ("that can be named from here", "has no field", "is not in scope", "ex
 REFUSED = "refused, as it must be"
 PRINTED = 160  # as many characters of an error does rt print of an edit
 ERROR = re.compile(r"(?:\./)?(\S+?):\d+:\d+: error: `([^`]+)`: .*")
-# A law that an `impl` of a trait must prove, by a term beside it.
-OF_IMPL = re.compile(r"src/\S+\.rt \w+-value")
+# A law that an `impl` of a trait must prove, where a search proves it; and the words of one that it does not prove.
+OF_IMPL = re.compile(r"(src/\S+\.rt) (\w+)-value")
+UNPROVED = "`search`: no proof of "
 # A goal for which no answer is written: where the code owes it, and its name, which rt may have cut.
 GOAL = re.compile(r"note: (?:\./)?(src/\S+?)\.rt:(\d+):\d+: it is not proved that .*?\(`([^`]+)(?:(`\)).*)?")
 # A function, or a constant of an `impl` of a trait, which is proved as one; and what it stands in.
@@ -126,6 +127,9 @@ def hold(edit, error, folder, texts, is_cut=False):
     place, is_whole = place_of(error, folder, texts)
     if place != named and (is_whole or not is_cut or not named.startswith(place)):
         raise Bad(f"refused first at {place}, not at {named}")
+    law = OF_IMPL.fullmatch(named)
+    if law and (UNPROVED not in error or f"ghost {law[2]} = {{ Prim.search rules }};" not in (texts.get(law[1]) or (folder / law[1]).read_text())):
+        raise Bad(f"no law of an impl that a search does not prove: {error.splitlines()[0]}")
     for words in NO_FACT:
         if words in error:
             raise Bad(f"the proof no longer fits the code ({words}): {error.splitlines()[0]}")

@@ -198,13 +198,17 @@ class Texts(unittest.TestCase):
     def test_places(self):
         self.assertEqual(self.by_log("# first error: proofs/P.antt f", "it is not so"), ("proofs/P.antt f", "./proofs/P.antt:1:2: error: `f`: it is not so\n  more"))
         self.assertEqual(self.by_line("# first error: proofs/P.antt f", "it is not so" * 99), "proofs/P.antt f")
-        law = "./src/a.rt:1:2: error: `bounds-value`: `search`: no proof of it"
-        self.edit.write_text(f"# first error: src/a.rt bounds-value\n{self.PAIR}")
-        self.assertEqual(hold_line(self.edit, f"refused, as it must be: {law}", self.crate), "src/a.rt bounds-value")
-        for place in ("# first error: src/b.rt bounds-value", "# first error: src/a.rt bounds", "# first error: src/a.rt other-value"):
-            self.edit.write_text(f"{place}\n{self.PAIR}")
-            with self.subTest(place=place), self.assertRaises(Bad):
-                hold_line(self.edit, f"refused, as it must be: {law}", self.crate)
+        (self.crate / "src/a.rt").write_text("    ghost bounds = { Prim.search rules };\n    ghost N = { 1 };\n")
+        for place, said, passes in (("src/a.rt bounds-value", "`bounds-value`: `search`: no proof of it", True), ("src/b.rt bounds-value", "`bounds-value`: `search`: no proof of it", False),
+                                    ("src/a.rt bounds", "`bounds-value`: `search`: no proof of it", False), ("src/a.rt bounds-value", "`bounds-value`: expected type `ℕ`", False),
+                                    ("src/a.rt N-value", "`N-value`: `search`: no proof of it", False)):
+            self.edit.write_text(f"# first error: {place}\n{self.PAIR}")
+            line = f"refused, as it must be: ./src/a.rt:1:2: error: {said}"
+            with self.subTest(place=place, said=said):
+                if passes:
+                    self.assertEqual(hold_line(self.edit, line, self.crate), place)
+                else:
+                    self.assertRaises(Bad, hold_line, self.edit, line, self.crate)
         for place in ("# first error: proofs/Q.antt g", "# first error: proofs/P.antt g", "# first error: proofs/Q.antt f", "first error:", "no place", "# first error: src/lib.rt f"):
             for held in (self.by_log, self.by_line):
                 with self.subTest(place=place, held=held.__name__), self.assertRaises(Bad):

@@ -47,7 +47,7 @@ def wrong(edit):
     place, _, name = first.partition(" ")
     # (a law that an impl must prove stands in src/)
     of_impl = re.fullmatch(r"src/[\w/]+\.rt", place) and re.fullmatch(r"\w+-value", name)
-    if of_impl and (crate / place).is_file() and re.search(rf"^ *ghost {re.escape(name.removesuffix('-value'))} = ", (crate / place).read_text(encoding="utf-8"), re.MULTILINE):
+    if of_impl and (crate / place).is_file() and re.search(rf"^ *ghost {re.escape(name.removesuffix('-value'))} = {{ Prim\.search rules }};", (crate / place).read_text(encoding="utf-8"), re.MULTILINE):
         return None
     if not re.fullmatch(r"proofs/[\w+/]+\.antt", place) or not name:
         return f"its first error is in no file of proofs/: {first}"
