@@ -1,7 +1,7 @@
 // The lines that are written, one for each record.
 //
-// Runs and outputs are nearly all that is written, so their digits are put together in a text and written at once. Formatted by `Display` each character
-// goes by itself: a run of KT took twice as long, and a long output nine times (docs/LOOK-BACK.md).
+// Runs and outputs are nearly all that is written, so their digits are put together in a text, and that is written, of a long output a part at a time.
+// Formatted by `Display` each character goes by itself: a run of KT took twice as long, and a long output nine times (docs/LOOK-BACK.md).
 ghost use Rattle.std.specs.Prelude.{◌+◌, ◌*◌, ◌≤◌, length};
 
 use crate::lent::Words;
