@@ -7,7 +7,7 @@ ghost use Rattle.std.specs.Prelude.{◌≤◌};
 
 use crate::line::write_answer;
 use crate::pieces::{Pieces, done};
-use crate::{output_lengths, pattern, ptn};
+use crate::{fill_ptn, output_lengths, pattern};
 use functions::kt::{KtAnswer, KtFunction};
 use hasher::Refusal;
 use kangarootwelve::{Kt, Kt128, Kt256, Run};
@@ -178,7 +178,8 @@ fn write_outputs(
 }
 
 pub fn write_edges(rt: &impl Print) -> io::Result<()> {
-    let buffer = ptn::<65536>();
+    let mut buffer = [0u8; 65536];
+    fill_ptn(&mut buffer);
     for (function, rate, pairs) in [
         (KtFunction::Kt128, Kt128::RATE, PAIRS_128),
         (KtFunction::Kt256, Kt256::RATE, PAIRS_256),

@@ -14,7 +14,7 @@ use functions::Function;
 use hasher::{Answer, Hasher, Refusal, Run};
 use line::{LONGEST, write_answer};
 use pieces::{Pieces, done};
-use std::{array, fmt, io};
+use std::{fmt, io};
 use turboshake::{TurboShake128, TurboShake256};
 
 const DOMAIN: u8 = 0x1f;
@@ -86,9 +86,11 @@ impl Pieces for TurboShakeRun {
     }
 }
 
-// The first bytes of ptn: 00 to FA, over and over.
-fn ptn<const N: usize>() -> [u8; N] {
-    array::from_fn(|i| (i % 251) as u8)
+// Fills the buffer with ptn: 00 to FA, over and over. The buffer is lent, since an array that is handed out lies on the stack twice.
+fn fill_ptn(buffer: &mut [u8]) {
+    for (i, byte) in buffer.iter_mut().enumerate() {
+        *byte = (i % 251) as u8;
+    }
 }
 
 // The first n bytes, of which the buffer holds as many as are asked.
@@ -183,7 +185,8 @@ fn write_edges(rt: &impl Print, turboshake: TurboShake, buffer: &[u8]) -> io::Re
 }
 
 fn main(rt: HostRuntime) -> io::Result<()> {
-    let buffer = ptn::<LONGEST>();
+    let mut buffer = [0u8; LONGEST];
+    fill_ptn(&mut buffer);
     write_edges(&rt, TurboShake::Bits128, &buffer)?;
     write_edges(&rt, TurboShake::Bits256, &buffer)?;
     kt::write_edges(&rt)
