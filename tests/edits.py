@@ -1,8 +1,7 @@
 """A must-fail edit: how it is made in a copy of its crate, and how what rt or the prover then says is held to it.
 
 An edit is a wrong version of a crate, in its code (src/) or in a definition (specs/). Its line `# first error: FILE NAME` says which
-declaration of proofs/ the prover must refuse first: an answer for a goal of a function, whether one is written or not, an invariant, or a law; or,
-in a file of src/, the law that an `impl` there must prove by a search, under the law's name and `-value`.
+declaration of proofs/ the prover must refuse first: an answer for a goal of a function, whether one is written or not, an invariant, or a law.
 The place is held here, and the words by which the prover says that a proof no longer fits the code. That the declaration is a fact which the
 edit makes false is for a person to read in the prover's log.
 """
@@ -14,11 +13,11 @@ NO_FACT = ("that can be named from here", "has no field", "is not in scope", "ex
 REFUSED = "refused, as it must be"
 PRINTED = 160  # as many characters of an error does rt print of an edit
 ERROR = re.compile(r"(?:\./)?(\S+?):\d+:\d+: error: `([^`]+)`: .*")
-# A law that an `impl` of a trait must prove, where a search proves it; and the words of one that it does not prove.
-OF_IMPL = re.compile(r"(src/\S+\.rt) (\w+)-value")
-UNPROVED = "`search`: no proof of "
 # A goal for which no answer is written: where the code owes it, and its name, which rt may have cut.
 GOAL = re.compile(r"note: (?:\./)?(src/\S+?)\.rt:(\d+):\d+: it is not proved that .*?\(`([^`]+)(?:(`\)).*)?")
+# A law that an `impl` of a trait owes, and a search of which no proof came: where the search stands, and the law's name; and the line of such a search.
+LAW = re.compile(r"(?:\./)?(src/\S+?)\.rt:(\d+):\d+: error: `(\w+)-value`: `search`: no proof of .*")
+SEARCHED = re.compile(r"^( +)ghost (\w+) = \{ Prim\.search rules \};$")
 # A function, or a constant of an `impl` of a trait, which is proved as one; and what it stands in.
 FN = re.compile(r"^( *)(?:pub(?:\(\w+\))? )?(?:(?:const )?(?:unsafe )?(?:extern \"C\" )?fn|const(?= \w+:)) (\w+)")
 HEAD = re.compile(r"(?:pub(?:\(\w+\))? )?(?:trait (?P<own>\w+)|impl(?:<[^{]*?>)? (?:(?P<trait>\w+)[^{]* for )?(?P<type>\w+))")
@@ -57,15 +56,15 @@ def apply(edit, folder):
         (folder / path).write_text(text)
 
 
-def function_at(source, number):
+def function_at(source, number, kind=FN):
     """The name of the function that is at or before this line of a source, or begins right after its attributes; before it, if it is a method, the type,
-    with the trait behind it where it is that trait's, or the trait, where it stands there."""
+    with the trait behind it where it is that trait's, or the trait, where it stands there. So of another item, by the kind of its line."""
     lines = source.split("\n")
     at = number - 1
     while at < len(lines) - 1 and lines[at].lstrip().startswith("#["):
         at += 1
     while at >= 0:
-        found = FN.match(lines[at])
+        found = kind.match(lines[at])
         if found:
             head = next((line for line in reversed(lines[:at]) if line[:1] not in ("", " ", "/", "#")), "")
             of = HEAD.match(head) if found[1] else None
@@ -74,16 +73,24 @@ def function_at(source, number):
     raise Bad(f"there is no function at line {number}")
 
 
-def answers_of(path, number, source):
+def answers_of(path, number, source, kind=FN):
     """The file of proofs/ with the answers of the function at this line of src/, whose path is without its ending."""
     modules = [step for step in path.split("/")[1:] if step not in ("lib", "main", "mod")]
-    return "/".join(["proofs", *modules, *function_at(source, number), "Answers.antt"])
+    return "/".join(["proofs", *modules, *function_at(source, number, kind), "Answers.antt"])
 
 
 def place_of(error, folder, texts):
     """Where an error of the crate at `folder`, with these texts there, is, and whether the place is whole: the file of proofs/ and the declaration in
-    it. `error` may be a note on a goal that has no answer: what is refused is then the answer that is not there."""
+    it. `error` may be a note on a goal that has no answer, or on a law of an impl: what is refused is then the answer that is not there."""
     line = error.split("\n", 1)[0]
+    law = LAW.fullmatch(line)
+    if law:
+        path, number, name = law.groups()
+        source = texts.get(f"{path}.rt") or (folder / f"{path}.rt").read_text()
+        found = SEARCHED.match(source.split("\n")[int(number) - 1])
+        if not found or found[2] != name:
+            raise Bad(f"there is no such law there: {line}")
+        return f"{answers_of(path, int(number), source, SEARCHED)} value", True
     first, goal = ERROR.fullmatch(line), GOAL.fullmatch(line)
     if first:
         return " ".join(first.groups()), True
@@ -113,8 +120,8 @@ def named_in(edit):
     named = re.search(r"^# first error: (\S+ \S+)$", edit.read_text(), re.MULTILINE)
     if not named:
         raise Bad("BAD EDIT: it does not say where it must be refused")
-    if not named.group(1).startswith("proofs/") and not OF_IMPL.fullmatch(named.group(1)):
-        raise Bad("BAD EDIT: a fact is refused in proofs/, or it is a law of an impl, and it names another place")
+    if not named.group(1).startswith("proofs/"):
+        raise Bad("BAD EDIT: a fact is refused in proofs/, and it names another place")
     if re.search(r"^file: proofs/", edit.read_text(), re.MULTILINE):
         raise Bad("BAD EDIT: it changes a proof, and not the code or a definition")
     return named.group(1)
@@ -127,9 +134,6 @@ def hold(edit, error, folder, texts, is_cut=False):
     place, is_whole = place_of(error, folder, texts)
     if place != named and (is_whole or not is_cut or not named.startswith(place)):
         raise Bad(f"refused first at {place}, not at {named}")
-    law = OF_IMPL.fullmatch(named)
-    if law and (UNPROVED not in error or f"ghost {law[2]} = {{ Prim.search rules }};" not in (texts.get(law[1]) or (folder / law[1]).read_text())):
-        raise Bad(f"no law of an impl that a search does not prove: {error.splitlines()[0]}")
     for words in NO_FACT:
         if words in error:
             raise Bad(f"the proof no longer fits the code ({words}): {error.splitlines()[0]}")

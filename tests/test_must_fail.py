@@ -198,17 +198,6 @@ class Texts(unittest.TestCase):
     def test_places(self):
         self.assertEqual(self.by_log("# first error: proofs/P.antt f", "it is not so"), ("proofs/P.antt f", "./proofs/P.antt:1:2: error: `f`: it is not so\n  more"))
         self.assertEqual(self.by_line("# first error: proofs/P.antt f", "it is not so" * 99), "proofs/P.antt f")
-        (self.crate / "src/a.rt").write_text("    ghost bounds = { Prim.search rules };\n    ghost N = { 1 };\n")
-        for place, said, passes in (("src/a.rt bounds-value", "`bounds-value`: `search`: no proof of it", True), ("src/b.rt bounds-value", "`bounds-value`: `search`: no proof of it", False),
-                                    ("src/a.rt bounds", "`bounds-value`: `search`: no proof of it", False), ("src/a.rt bounds-value", "`bounds-value`: expected type `ℕ`", False),
-                                    ("src/a.rt N-value", "`N-value`: `search`: no proof of it", False)):
-            self.edit.write_text(f"# first error: {place}\n{self.PAIR}")
-            line = f"refused, as it must be: ./src/a.rt:1:2: error: {said}"
-            with self.subTest(place=place, said=said):
-                if passes:
-                    self.assertEqual(hold_line(self.edit, line, self.crate), place)
-                else:
-                    self.assertRaises(Bad, hold_line, self.edit, line, self.crate)
         for place in ("# first error: proofs/Q.antt g", "# first error: proofs/P.antt g", "# first error: proofs/Q.antt f", "first error:", "no place", "# first error: src/lib.rt f"):
             for held in (self.by_log, self.by_line):
                 with self.subTest(place=place, held=held.__name__), self.assertRaises(Bad):
@@ -292,6 +281,19 @@ impl T for S {
         self.assertEqual(answers_of("src/main", 1, self.SOURCE), "proofs/one/Answers.antt")
         with self.assertRaises(Bad):
             function_at("use a;\nfn f() {}\n", 1)
+
+    def test_laws_of_impls(self):
+        """A law that an impl owes is named like a constant of it, where a search finds no proof of it, and of that impl alone."""
+        (self.crate / "src/a.rt").write_text("impl T for R {\n    ghost bounds = { Prim.search rules };\n}\n\nimpl T for S {\n    ghost bounds = { Prim.search rules };\n    ghost N = { 1 };\n}\n")
+        for number, words, place in ((2, "`bounds-value`: `search`: no proof of it", "RT/bounds"), (6, "`bounds-value`: `search`: no proof of it", "ST/bounds"), (6, "`bounds-value`: `search`: no proof of it", "RT/bounds"),
+                                     (6, "`bounds-value`: expected type `ℕ`", "ST/bounds"), (6, "`other-value`: `search`: no proof of it", "ST/other"), (7, "`N-value`: `search`: no proof of it", "ST/N")):
+            self.edit.write_text(f"# first error: proofs/a/{place}/Answers.antt value\n{self.PAIR}")
+            line = f"refused, as it must be: ./src/a.rt:{number}:1: error: {words}"
+            with self.subTest(number=number, words=words, place=place):
+                if (number, place) in ((2, "RT/bounds"), (6, "ST/bounds")) and "no proof" in words:
+                    self.assertEqual(hold_line(self.edit, line, self.crate), f"proofs/a/{place}/Answers.antt value")
+                else:
+                    self.assertRaises(Bad, hold_line, self.edit, line, self.crate)
 
     def test_edited_source(self):
         """Lines are those of the text with the edit."""

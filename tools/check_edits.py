@@ -45,10 +45,6 @@ def wrong(edit):
     if len(said) != 1 or not first:
         return "it has not one line on what is wrong, and one that begins '# first error: '"
     place, _, name = first.partition(" ")
-    # (a law that an impl must prove stands in src/)
-    of_impl = re.fullmatch(r"src/[\w/]+\.rt", place) and re.fullmatch(r"\w+-value", name)
-    if of_impl and (crate / place).is_file() and re.search(rf"^ *ghost {re.escape(name.removesuffix('-value'))} = {{ Prim\.search rules }};", (crate / place).read_text(encoding="utf-8"), re.MULTILINE):
-        return None
     if not re.fullmatch(r"proofs/[\w+/]+\.antt", place) or not name:
         return f"its first error is in no file of proofs/: {first}"
     # (the answers of a function need no file, where each goal is proved with none)
