@@ -50,6 +50,9 @@ fn put_numbers(text: &mut [u8], at: usize, numbers: &[u64])
     }
 }
 
+// Two digits, numbers of a space and 16 digits each, and a line end: 29 numbers and 496 bytes, and before the position, at byte 53, a space and two
+// digits for each byte of `own`.
+//
 // The phase, the bytes absorbed, the bytes squeezed and the permutations; what a run of SP 800-185 has of its own, which is its bit or its output length;
 // the position and the lanes.
 fn write_run(rt: &impl Print, run: hasher::Run, own: &[u8]) -> io::Result<()>
@@ -75,7 +78,7 @@ fn write_run(rt: &impl Print, run: hasher::Run, own: &[u8]) -> io::Result<()>
 }
 
 // As of a run of the sponge, but after the bytes squeezed come the customization bytes and the permutations; the positions of the final
-// node and of the leaf, then the lanes of each.
+// node and of the leaf, then the lanes of each: 56 numbers and 955 bytes.
 fn write_tree(rt: &impl Print, run: kangarootwelve::Run) -> io::Result<()> {
     let kangarootwelve::Run {
         node,
